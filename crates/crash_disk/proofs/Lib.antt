@@ -1,0 +1,7 @@
+pub mod CrashedLemmas
+pub mod FolderLemmas
+pub mod KeyLemmas
+pub mod ReplayLemmas
+pub mod ResultLemmas
+pub mod StandardFacts
+pub mod TableLemmas

@@ -1,0 +1,5 @@
+use Rattle.crash_disk.specs.ImageLaws.{IsCrashImage-reads}
+use Rattle.crash_disk.proofs.law.read_files_are_an_image.Goals as goal
+
+pub returns : goal.returns
+returns c = IsCrashImage-reads

@@ -1,0 +1,29 @@
+use Rattle.std.proofs.Common.{sym, ◌∙◌}
+use Rattle.litestream_core.specs.RequestView.{as_request}
+use Rattle.litestream_core.proofs.ExactLemmas.{comes_exactly}
+use Rattle.litestream_core.proofs.Theorems.{keeps_promise, survives_any_stop, is_built, for_request}
+use Rattle.litestream_core.proofs.command.litestream.Goals as goal
+
+pub returns-clause-explained : goal.returns-clause-explained
+returns-clause-explained g c =
+    for_request c.args.words.now (as_request c.in-Some.request) _ c.in-Some.ensures (rw (c.of-2.ensures.cause, c.cause_of.ensures) c.restore-ended.ensures.explained)
+
+pub returns-clause-exact : goal.returns-clause-exact
+returns-clause-exact g c =
+    for_request c.args.words.now (as_request c.in-Some.request) _ c.in-Some.ensures
+    (rw (c.of-2.ensures.cause, c.cause_of.ensures) (comes_exactly (as_request c.in-Some.request) _ _ c.restore-ended.ensures.explained))
+
+pub returns-clause-promise : goal.returns-clause-promise
+returns-clause-promise g c =
+    for_request c.args.words.now (as_request c.in-Some.request) _ c.in-Some.ensures
+    (rw (c.of-2.ensures.cause, c.cause_of.ensures) (keeps_promise (as_request c.in-Some.request) _ _ c.restore-ended.ensures.explained))
+
+pub returns-clause-at_any_stop : goal.returns-clause-at_any_stop
+returns-clause-at_any_stop g c =
+    for_request c.args.words.now (as_request c.in-Some.request) _ c.in-Some.ensures (survives_any_stop (as_request c.in-Some.request) _ _ c.restore-ended.ensures.explained)
+
+pub returns-clause-target_unchanged : goal.returns-clause-target_unchanged
+returns-clause-target_unchanged g c = λ not_built. absurd (is_built (as_request c.in-Some.request) _ _ _ c.restore-ended.ensures.explained (c.of-2.ensures.cause ∙ c.cause_of.ensures) not_built)
+
+pub returns-clause-out_unchanged : goal.returns-clause-out_unchanged
+returns-clause-out_unchanged g c = λ not_built. absurd (is_built (as_request c.in-Some.request) _ _ _ c.restore-ended.ensures.explained (c.of-2.ensures.cause ∙ c.cause_of.ensures) not_built)

@@ -1,0 +1,15 @@
+use Rattle.std.specs.Prelude.{ℕ}
+use Rattle.litestream_core.specs.declared.outcome.Why.{Why}
+use Rattle.litestream_core.specs.declared.outcome.Why.TheVariants.{Done, NotBuilt, MissingRange, Damaged, OutputExists, StoreFault, TargetFault, SinkFault, Memory}
+
+-- the exit status of each cause
+abbrev pub status_of : Why → ℕ
+status_of Done = 0
+status_of NotBuilt = 2
+status_of (MissingRange after) = 1
+status_of (Damaged name damage) = 1
+status_of (OutputExists size) = 1
+status_of StoreFault = 3
+status_of TargetFault = 3
+status_of SinkFault = 3
+status_of Memory = 4

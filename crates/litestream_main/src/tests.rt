@@ -1,0 +1,77 @@
+use crate::file_disk::FileDisk;
+use crate::std_out::StdOut;
+use crash_disk::{Disk, DiskFault, NamesFault, Out};
+use std::fs;
+use std::test::Fail;
+
+/// A disk that is attached to a folder which isn't there yet.
+fn attached(rt: HostRuntime, folder: &str) -> Result<FileDisk, NamesFault> {
+    let _ = fs::remove_dir_all(&rt, folder);
+    let mut disk = FileDisk::new(rt);
+    disk.attach(rt.alloc(), folder)?;
+    Ok(disk)
+}
+
+fn put(disk: &mut FileDisk, name: &str, bytes: &[u8]) -> Result<(), DiskFault> {
+    disk.create(name)?;
+    disk.append(name, bytes)?;
+    disk.sync(name)
+}
+
+/// What a read into four bytes gives, and the bytes.
+fn read(disk: &mut FileDisk, name: &str, at: u64) -> Result<(usize, [u8; 4]), DiskFault> {
+    let mut into = [0; 4];
+    let count = disk.read_at(name, at, &mut into)?;
+    Ok((count, into))
+}
+
+#[test]
+fn a_real_file_holds_what_was_appended(rt: HostRuntime) -> Result<(), Fail> {
+    let folder = "file_disk_appends";
+    let mut disk = attached(rt, folder)?;
+    assert_eq!(rt; disk.size("ltx/9/x.ltx")?, None);
+    put(&mut disk, "ltx/9/x.ltx", b"abc")?;
+    disk.append("ltx/9/x.ltx", b"de")?;
+    assert_eq!(rt; disk.size("ltx/9/x.ltx")?, Some(5));
+    assert_eq!(rt; read(&mut disk, "ltx/9/x.ltx", 2)?, (3, *b"cde\0"));
+    fs::remove_dir_all(&rt, folder)?;
+    Ok(())
+}
+
+#[test]
+fn a_name_of_a_real_file_changes_and_goes(rt: HostRuntime) -> Result<(), Fail> {
+    let folder = "file_disk_renames";
+    let mut disk = attached(rt, folder)?;
+    put(&mut disk, "new", b"new")?;
+    put(&mut disk, "old", b"old")?;
+    disk.rename("new", "old")?;
+    disk.sync_names()?;
+    assert_eq!(rt; read(&mut disk, "old", 0)?, (3, *b"new\0"));
+    disk.remove("old")?;
+    disk.remove("old")?;
+    assert_eq!(rt; read(&mut disk, "old", 0)?, (0, [0; 4]));
+    fs::remove_dir_all(&rt, folder)?;
+    Ok(())
+}
+
+#[test]
+fn faults_of_real_files_are_counted(rt: HostRuntime) -> Result<(), Fail> {
+    let folder = "file_disk_faults";
+    let mut disk = attached(rt, folder)?;
+    put(&mut disk, "x", b"abc")?;
+    assert_eq!(rt; disk.faults(), 0);
+    assert!(rt; disk.append("absent", b"abc").is_err());
+    assert!(rt; disk.size("x/below_a_file").is_err());
+    assert_eq!(rt; disk.faults(), 2);
+    fs::remove_dir_all(&rt, folder)?;
+    Ok(())
+}
+
+#[test]
+fn both_streams_take_bytes(rt: HostRuntime) -> Result<(), Fail> {
+    for mut out in [StdOut::stdout(rt), StdOut::stderr(rt)] {
+        out.put(b"one line\n")?;
+        assert_eq!(rt; out.faults(), 0);
+    }
+    Ok(())
+}

@@ -1,0 +1,4 @@
+pub mod PageSizeLemmas
+pub mod StandardFacts
+pub mod TxidLemmas
+pub mod MapLemmas

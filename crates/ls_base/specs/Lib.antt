@@ -1,0 +1,9 @@
+pub mod PageSize
+pub mod Txid
+pub mod TxidLaws
+pub mod Page
+pub mod State
+pub mod Change
+pub mod Place
+pub mod History
+pub mod SyncLog

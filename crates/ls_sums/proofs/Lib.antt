@@ -1,0 +1,12 @@
+pub mod XorLemmas
+pub mod BitLemmas
+pub mod LinearLemmas
+pub mod ByteLemmas
+pub mod PieceLemmas
+pub mod WordLemmas
+pub mod PairLemmas
+pub mod SquareLemmas
+pub mod MovedLemmas
+pub mod RingLemmas
+pub mod WindowLemmas
+pub mod StandardFacts

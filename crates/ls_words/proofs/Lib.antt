@@ -1,0 +1,9 @@
+pub mod DigitLemmas
+pub mod FlagLemmas
+pub mod PathLemmas
+pub mod ValueLemmas
+pub mod MomentLemmas
+pub mod WordLemmas
+pub mod ReadingLemmas
+pub mod StandardFacts
+pub mod Theorems

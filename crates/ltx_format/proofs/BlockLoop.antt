@@ -1,0 +1,109 @@
+-- Reading blocks one after another, as a loop does.
+use Rattle.std.proofs.Common.{◌≡◌, ℕ, suc, ◌-◌, ◌+◌, ◌≤◌, ◌<◌, Bool, false, eqb, ltb, leb, ◌&&◌, List, [], ◌∷◌, ◌++◌, length, take, drop, Result, Ok, Err, refl, sym, ap, ◌∙◌, append_assoc, arith}
+use Rattle.std.specs.Int.{w16, w32}
+use Rattle.std.specs.Ordering.{nat_cmp}
+use Rattle.std.specs.Cmp.{nat_cmp_total}
+use Rattle.std.specs.FinMap.{FinMap, entries, empty, insert, len, put, entries-insert, len-entries, len-empty}
+use Rattle.std.proofs.lemmas.Bool.{and_parts, le-ltb, ne_eqb, ltb-true}
+use Rattle.std.proofs.lemmas.List.{append-nil, nil_from_length}
+use Rattle.ltx_format.specs.declared.fault.LtxFault.{LtxFault}
+use Rattle.ltx_format.specs.Reading.{◌>>=◌, number_at, page_at, blocks_at, behind, where_true}
+use Rattle.ltx_format.proofs.StepLemmas.{bind_ok, where_true-ok}
+
+abbrev pub Blocks : Type 0
+Blocks = List (ℕ × List ℕ)
+
+-- the blocks that were read before, and those that are still read
+abbrev pub with_front : Blocks → Result (Blocks × List ℕ) LtxFault → Result (Blocks × List ℕ) LtxFault
+with_front front read = read >>= λ x. Ok (front ++ x.0, x.1)
+
+regroup : (front : Blocks) (block : ℕ × List ℕ) (read : Result (Blocks × List ℕ) LtxFault) → with_front front (read >>= λ x. Ok (block ∷ x.0, x.1)) ≡ with_front (front ++ block ∷ []) read
+regroup front block (Ok x) = ap (λ (blocks : Blocks). Ok (blocks, x.1)) (simp append_assoc)
+regroup front block (Err f) = refl
+
+-- ---- before the first turn
+
+with_front-none : (read : Result (Blocks × List ℕ) LtxFault) → with_front [] read ≡ read
+with_front-none (Ok x) = refl
+with_front-none (Err f) = refl
+
+pub begins : (size commit : ℕ) (bytes : List ℕ) → with_front [] (blocks_at (commit - 0) size commit 0 bytes) ≡ blocks_at commit size commit 0 bytes
+begins size commit bytes =
+    let all : commit - 0 ≡ commit = omega arith in
+    rw all (with_front-none (blocks_at commit size commit 0 bytes))
+
+pub entries-empty : (m : FinMap nat_cmp (List ℕ)) → m ≡ empty → entries m ≡ []
+entries-empty m e = nil_from_length (entries m) (sym (len-entries m) ∙ ap len e ∙ len-empty nat_cmp (List ℕ))
+
+-- ---- one turn
+
+module _ (front : Blocks) (size commit last i : ℕ) (bytes : List ℕ) (total : Result (Blocks × List ℕ) LtxFault) (more : i < commit)
+    (so_far : with_front front (blocks_at (commit - i) size commit last bytes) ≡ total) where
+  left : commit - i ≡ suc (commit - (i + 1))
+  left = omega arith
+
+  pub goes_on : (number : ℕ) (after page rest : List ℕ) → number_at w32 bytes ≡ Ok (number, after) → eqb number 0 ≡ false → page_at size commit last number after ≡ Ok (page, rest)
+      → with_front (front ++ (number, page) ∷ []) (blocks_at (commit - (i + 1)) size commit number rest) ≡ total
+  unfolding blocks_at
+  goes_on number after page rest read some read_page =
+      let one : with_front front (blocks_at (commit - i) size commit last bytes) ≡ with_front (front ++ (number, page) ∷ []) (blocks_at (commit - (i + 1)) size commit number rest) =
+      rw (left, read, some, read_page) (regroup front (number, page) (blocks_at (commit - (i + 1)) size commit number rest)) in
+      sym one ∙ so_far
+
+  pub ends : (after : List ℕ) → number_at w32 bytes ≡ Ok (0, after) → total ≡ Ok (front, bytes)
+  unfolding blocks_at
+  ends after read =
+      let one : with_front front (blocks_at (commit - i) size commit last bytes) ≡ Ok (front, bytes) = rw (left, read) (ap (λ (blocks : Blocks). Ok (blocks, bytes)) (append-nil front)) in
+      sym so_far ∙ one
+
+  pub no_number : (fault : LtxFault) → number_at w32 bytes ≡ Err fault → total ≡ Err fault
+  unfolding blocks_at
+  no_number fault read =
+      let one : with_front front (blocks_at (commit - i) size commit last bytes) ≡ Err fault = rw (left, read) refl in
+      sym so_far ∙ one
+
+  pub no_page : (number : ℕ) (after : List ℕ) (fault : LtxFault) → number_at w32 bytes ≡ Ok (number, after) → eqb number 0 ≡ false → page_at size commit last number after ≡ Err fault → total ≡ Err fault
+  unfolding blocks_at
+  no_page number after fault read some read_page =
+      let one : with_front front (blocks_at (commit - i) size commit last bytes) ≡ Err fault = rw (left, read, some, read_page) refl in
+      sym so_far ∙ one
+
+-- behind the last turn
+pub is_done : (front : Blocks) (size commit last i : ℕ) (bytes : List ℕ) (total : Result (Blocks × List ℕ) LtxFault) → commit ≤ i → with_front front (blocks_at (commit - i) size commit last bytes) ≡ total → total ≡ Ok (front, bytes)
+unfolding blocks_at
+is_done front size commit last i bytes total le so_far =
+    let none : commit - i ≡ 0 = omega arith in
+    let one : with_front front (blocks_at (commit - i) size commit last bytes) ≡ Ok (front, bytes) = rw none (ap (λ (blocks : Blocks). Ok (blocks, bytes)) (append-nil front)) in
+    sym so_far ∙ one
+
+-- ---- the pages so far
+
+-- each number is at most this
+abbrev pub AreUpTo : ℕ → Blocks → Type 0
+AreUpTo last [] = Unit {0}
+AreUpTo last (block ∷ blocks) = (block.0 ≤ last) × AreUpTo last blocks
+
+-- a number above all others is put last
+put_last : (k : ℕ) (v : List ℕ) (last : ℕ) (blocks : Blocks) → AreUpTo last blocks → last < k → put nat_cmp k v blocks ≡ blocks ++ (k, v) ∷ []
+put_last k v last [] up_to above = refl
+put_last k v last (block ∷ blocks) up_to above =
+    let low = up_to.0 in
+    rw (le-ltb k block.0 (omega arith), ne_eqb k block.0 (λ e. omega arith)) (ap (λ (rest : Blocks). block ∷ rest) (put_last k v last blocks up_to.1 above))
+
+pub entries-insert_last : (m : FinMap nat_cmp (List ℕ)) (k : ℕ) (v : List ℕ) (last : ℕ) → AreUpTo last (entries m) → last < k → entries (insert m k v) ≡ entries m ++ (k, v) ∷ []
+entries-insert_last m k v last up_to above = entries-insert nat_cmp_total m k v ∙ put_last k v last (entries m) up_to above
+
+pub up_to_more : (k : ℕ) (v : List ℕ) (last : ℕ) (blocks : Blocks) → AreUpTo last blocks → last < k → AreUpTo k (blocks ++ (k, v) ∷ [])
+up_to_more k v last [] up_to above = (omega arith, tt)
+up_to_more k v last (block ∷ blocks) up_to above = let low = up_to.0 in (omega arith, up_to_more k v last blocks up_to.1 above)
+
+abbrev page_fits : ℕ → ℕ → ℕ → ℕ → List ℕ → Bool
+page_fits size commit last number rest = ltb last number && leb number commit && leb size (length rest)
+
+-- a page that is read has a number above the last
+pub page_rises : (size commit last number : ℕ) (bytes : List ℕ) (x : List ℕ × List ℕ) → page_at size commit last number bytes ≡ Ok x → last < number
+unfolding page_at
+page_rises size commit last number bytes x e =
+    let b = bind_ok (behind w16 0 bytes) (λ rest. where_true (page_fits size commit last number rest) (take size rest, drop size rest)) x e in
+    let tests = (where_true-ok (page_fits size commit last number b.0) (take size b.0, drop size b.0) x b.2).0 in
+    ltb-true last number (and_parts (ltb last number) _ (and_parts (ltb last number && leb number commit) _ tests).0).0

@@ -1,0 +1,11 @@
+pub mod Crc64Lemmas
+pub mod StepLemmas
+pub mod BlockLoop
+pub mod FieldLaws
+pub mod PlaceLaws
+pub mod HeaderLaws
+pub mod BlockLaws
+pub mod PageLemmas
+pub mod FileLaws
+pub mod Theorems
+pub mod StandardFacts

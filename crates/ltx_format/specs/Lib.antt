@@ -1,0 +1,3 @@
+pub mod LtxFormat
+pub mod Reading
+pub mod OneSpelling

@@ -1,0 +1,15 @@
+-- Files and values fit one to one.
+use Rattle.std.specs.Prelude.{◌≡◌, ℕ, ◌^◌, ◌<◌, List, slice_index}
+use Rattle.ls_base.specs.Change.{Change}
+use Rattle.ltx_format.specs.declared.header.LtxHeader.{LtxHeader}
+use Rattle.ltx_format.specs.LtxFormat.{IsLtxFile}
+
+-- two files of one header and change are the same bytes
+abbrev pub OneSpelling : Type 0
+OneSpelling = (a b : List ℕ) (h : LtxHeader) (c : Change) → IsLtxFile a h c → IsLtxFile b h c → a ≡ b
+
+-- bytes are the file of at most one header and change
+abbrev pub OneValue : Type 0
+OneValue =
+    (bytes : List ℕ) (h i : LtxHeader) (c d : Change) → ((k : ℕ) → slice_index bytes k < 2 ^ 8)
+    → IsLtxFile bytes h c → IsLtxFile bytes i d → (h ≡ i) × (c ≡ d)

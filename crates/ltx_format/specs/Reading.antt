@@ -1,0 +1,154 @@
+-- Reading a file from left to right. Each reader answers what it read and the bytes behind it, or the fault.
+use Rattle.std.specs.Prelude.{◌≡◌, ℕ, zero, suc, ◌+◌, ◌-◌, ◌*◌, ◌%◌, ◌^◌, Bool, List, [], ◌∷◌, length, take, drop, Result, Ok, Err, nat_lt, nat_le, ◌==◌, ◌&&◌, ◌||◌, not, if◌then◌else◌}
+use Rattle.std.specs.Int.{Width, w16, w32, w64, byte_len, from_be_bytes}
+use Rattle.std.specs.FinMap.{entries}
+use Rattle.ls_base.specs.PageSize.{is_page_size}
+use Rattle.ls_base.specs.declared.place.Place.{Place}
+use Rattle.ls_base.specs.declared.place.Place.TheVariants.{Wal, Rest}
+use Rattle.ltx_format.specs.declared.fault.DecodeFault.{DecodeFault}
+use Rattle.ltx_format.specs.declared.fault.DecodeFault.TheVariants as causes
+use Rattle.ltx_format.specs.declared.fault.LtxFault.{LtxFault}
+use Rattle.ltx_format.specs.declared.fault.LtxFault.TheVariants.{NotFile}
+use Rattle.ltx_format.specs.declared.file.LtxFile.{LtxFile}
+use Rattle.ltx_format.specs.declared.header.LtxHeader.{LtxHeader}
+use Rattle.ltx_format.specs.LtxFormat.{file_sum}
+
+-- one reader after another, up to the first fault
+infixl 10 ◌>>=◌
+abbrev pub ◌>>=◌ : {A B : Type 0} → Result A LtxFault → (A → Result B LtxFault) → Result B LtxFault
+(Ok x) >>= next = next x
+(Err fault) >>= next = Err fault
+
+-- what a function answered, as `view` sees it, is what reading gives
+abbrev pub Reads : {X Y : Type 0} → (X → Y) → Result X LtxFault → Result Y LtxFault → Type 0
+Reads view (Ok x) read = read ≡ Ok (view x)
+Reads view (Err fault) read = read ≡ Err fault
+
+-- a fault is the one that reading gives; want of memory says nothing
+abbrev pub FailsAs : {Y : Type 0} → DecodeFault → Result Y LtxFault → Type 0
+FailsAs causes.Memory read = Unit {0}
+FailsAs (causes.Fault fault) read = read ≡ Err fault
+
+-- the same where memory may run out
+abbrev pub ReadsInMemory : {X Y : Type 0} → (X → Y) → Result X DecodeFault → Result Y LtxFault → Type 0
+ReadsInMemory view (Ok x) read = read ≡ Ok (view x)
+ReadsInMemory view (Err cause) read = FailsAs cause read
+
+-- what is read where the test passes
+abbrev pub where_true : {A : Type 0} → Bool → A → Result A LtxFault
+where_true test x = if test then Ok x else Err NotFile
+
+-- a number
+unfoldable pub number_at : Width → List ℕ → Result (ℕ × List ℕ) LtxFault
+number_at w bytes = if nat_lt (length bytes) (byte_len w) then Err NotFile else Ok (from_be_bytes w (take (byte_len w) bytes), drop (byte_len w) bytes)
+
+-- the bytes behind this number, which must stand first
+unfoldable pub behind : Width → ℕ → List ℕ → Result (List ℕ) LtxFault
+behind w number bytes = do
+  n ← number_at w bytes
+  where_true (n.0 == number) n.1
+
+-- the page size of a number
+unfoldable pub size_from : ℕ → Result ℕ LtxFault
+size_from number = where_true (is_page_size number) number
+
+-- how many pages the database has afterwards: at least one, and at most 2^30 bytes together
+unfoldable pub commit_at : ℕ → List ℕ → Result (ℕ × List ℕ) LtxFault
+commit_at size bytes = do
+  n ← number_at w32 bytes
+  where_true (not (n.0 == 0) && nat_le (n.0 * size) (2 ^ 30)) n
+
+-- the first and the last transaction of two numbers
+unfoldable pub range_from : ℕ → ℕ → Result (ℕ × ℕ) LtxFault
+range_from min max = where_true (not (min == 0) && nat_le min max) (min, max)
+
+-- whole frames, at least one, that end within the first 2^32 bytes of a log
+abbrev pub are_frames : ℕ → ℕ → Bool
+are_frames size bytes = bytes % (24 + size) == 0 && nat_le (24 + size) bytes && nat_le (32 + bytes) (2 ^ 32)
+
+-- a place in the log behind its offset 32: length, salts, node 0, sums
+unfoldable pub wal_at : ℕ → List ℕ → Result (Place × List ℕ) LtxFault
+wal_at size bytes = do
+  log ← number_at w64 bytes
+  salt1 ← number_at w32 log.1
+  salt2 ← number_at w32 salt1.1
+  rest ← behind w64 0 salt2.1
+  s0 ← number_at w32 rest
+  s1 ← number_at w32 s0.1
+  where_true (are_frames size log.0) (Wal salt1.0 salt2.0 (32 + log.0) s0.0 s1.0, s1.1)
+
+-- a place at rest behind its offset 0: length 0, salts 0, node 0, the sum with its top bit set
+unfoldable pub rest_at : List ℕ → Result (Place × List ℕ) LtxFault
+rest_at bytes = do
+  salts ← behind w64 0 bytes
+  node ← behind w64 0 salts
+  rest ← behind w64 0 node
+  sum ← number_at w64 rest
+  where_true (nat_le (2 ^ 63) sum.0) (Rest sum.0, sum.1)
+
+-- the place, by the offset of its log
+unfoldable pub place_at : ℕ → List ℕ → Result (Place × List ℕ) LtxFault
+place_at size bytes = do
+  offset ← number_at w64 bytes
+  if offset.0 == 32 then wal_at size offset.1 else if offset.0 == 0 then rest_at offset.1 else Err NotFile
+
+-- the header
+unfoldable pub header_at : List ℕ → Result (LtxHeader × List ℕ) LtxFault
+header_at bytes = do
+  flags ← behind w32 0x4c54_5831 bytes
+  fields ← behind w32 2 flags
+  field ← number_at w32 fields
+  size ← size_from field.0
+  commit ← commit_at size field.1
+  min ← number_at w64 commit.1
+  max ← number_at w64 min.1
+  range ← range_from min.0 max.0
+  moment ← number_at w64 max.1
+  log ← behind w64 0 moment.1
+  place ← place_at size log
+  free ← behind w64 0 place.1
+  rest ← behind w32 0 free
+  Ok (record { size = size; commit = commit.0; min = range.0; max = range.1; moment = moment.0; place = place.0 }, rest)
+
+-- the page of this number behind the number: flags 0 and the page, where the number rises and is at most
+-- the commit
+unfoldable pub page_at : ℕ → ℕ → ℕ → ℕ → List ℕ → Result (List ℕ × List ℕ) LtxFault
+page_at size commit last number bytes = do
+  rest ← behind w16 0 bytes
+  where_true (nat_lt last number && nat_le number commit && nat_le size (length rest)) (take size rest, drop size rest)
+
+-- The blocks up to a number 0, and at most n of them. The number before them is `last`.
+unfoldable pub blocks_at : ℕ → ℕ → ℕ → ℕ → List ℕ → Result (List (ℕ × List ℕ) × List ℕ) LtxFault
+blocks_at zero size commit last bytes = Ok ([], bytes)
+blocks_at (suc n) size commit last bytes = do
+  number ← number_at w32 bytes
+  if number.0 == 0 then Ok ([], bytes) else do
+    page ← page_at size commit last number.0 number.1
+    others ← blocks_at n size commit number.0 page.1
+    Ok ((number.0, page.0) ∷ others.0, others.1)
+
+-- what ends the file behind the blocks: 6 zero bytes, post-apply checksum 0, and the sum of all before it
+unfoldable pub end_at : List ℕ → List ℕ → Result (Unit {0}) LtxFault
+end_at file bytes = do
+  flags ← behind w32 0 bytes
+  check ← behind w16 0 flags
+  sum ← behind w64 0 check
+  rest ← behind w64 (file_sum (take (length file - 8) file)) sum
+  where_true (length rest == 0) tt
+
+-- a file from the first transaction on has every page
+abbrev pub is_whole : LtxHeader → List (ℕ × List ℕ) → Bool
+is_whole header blocks = not (header.min == 1) || length blocks == header.commit
+
+-- the whole file
+unfoldable pub file_at : List ℕ → Result (LtxHeader × List (ℕ × List ℕ)) LtxFault
+file_at bytes = do
+  header ← header_at bytes
+  blocks ← blocks_at header.0.commit header.0.size header.0.commit 0 header.1
+  whole ← where_true (is_whole header.0 blocks.0) blocks.0
+  ended ← end_at bytes blocks.1
+  Ok (header.0, whole)
+
+-- a file by its header and the entries of its pages
+abbrev pub parts : LtxFile → LtxHeader × List (ℕ × List ℕ)
+parts file = (file.header, entries file.pages)

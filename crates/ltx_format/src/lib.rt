@@ -1,0 +1,29 @@
+//! LTX files: the bytes of one transaction file, read and written exactly.
+//!
+//! The format is a profile of this project's own, after superfly/ltx: a header of 100 bytes, page blocks,
+//! an end of 6 zero bytes and a trailer of 16 bytes. `specs/LtxFormat.antt` says which bytes are the file
+//! of a header and its pages. `decode` answers Ok exactly on those bytes, for that header and those pages,
+//! unless memory runs out. It takes memory for the pages alone, and returns on any bytes. `one_spelling`
+//! is the law that files and values fit one to one.
+//!
+//! Stands on `ls_base`, on `ls_sums` for the sum of a file, and on `byteorder` for the bytes of a number.
+#![tactic(auto)]
+
+mod block;
+mod fault;
+mod field;
+mod file;
+mod header;
+mod heading;
+mod place;
+mod reading;
+mod spelling;
+#[cfg(test)]
+mod tests;
+mod trailer;
+
+pub use fault::{DecodeFault, LtxFault};
+pub use file::LtxFile;
+pub use header::LtxHeader;
+pub use reading::decode;
+pub use spelling::one_spelling;

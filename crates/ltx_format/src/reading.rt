@@ -1,0 +1,42 @@
+//! Reading a whole file.
+
+ghost use Rattle.std.specs.Prelude.{◌≡◌, MatchResult, IfOk};
+ghost use Rattle.ls_base.specs.Change.{Change};
+ghost use Rattle.ltx_format.specs.declared.header.LtxHeader.{LtxHeader};
+ghost use Rattle.ltx_format.specs.LtxFormat.{IsLtxFile, change_of, ReadsAs};
+ghost use Rattle.ltx_format.specs.Reading.{ReadsInMemory, parts, file_at};
+
+use crate::block::pages_of;
+use crate::fault::{DecodeFault, LtxFault};
+use crate::file::LtxFile;
+use crate::heading::header_of;
+use crate::trailer::end_of;
+use std::alloc::Global;
+
+/// The file that the bytes are. `NotFile` exactly where they are no file of the format, and `Memory` for
+/// want of memory for its pages.
+pub fn decode(alloc: Global, bytes: &[u8]) -> Result<LtxFile, DecodeFault>
+    // What is read is spelled so.
+    ensures found { IfOk result (λ file. IsLtxFile bytes.now file.header (change_of file)) }
+    // What is spelled so is read, unless memory runs out.
+    ensures only { (h : LtxHeader) (c : Change) → IsLtxFile bytes.now h c → ReadsAs result h c }
+{
+    file_of(alloc, bytes)
+}
+
+/// The file by its parts.
+#[tactic(auto, unfolding(crate::specs::Reading::file_at))]
+fn file_of(alloc: Global, bytes: &[u8]) -> Result<LtxFile, DecodeFault>
+    ensures { ReadsInMemory parts result (file_at bytes.now) }
+{
+    let (header, rest) = match header_of(bytes) {
+        Ok(read) => read,
+        Err(fault) => return Err(DecodeFault::Fault(fault)),
+    };
+    let (pages, count, rest) = pages_of(alloc, &header, rest)?;
+    if header.min.number() == 1 && count != header.commit {
+        return Err(DecodeFault::Fault(LtxFault::NotFile));
+    }
+    end_of(bytes, rest)?;
+    Ok(LtxFile { header, pages })
+}
