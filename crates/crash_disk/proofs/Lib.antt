@@ -1,5 +1,6 @@
 pub mod CrashedLemmas
 pub mod FolderLemmas
+pub mod GoesOnLemmas
 pub mod KeyLemmas
 pub mod ReplayLemmas
 pub mod ResultLemmas

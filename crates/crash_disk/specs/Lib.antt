@@ -1,5 +1,6 @@
 pub mod Fault
 pub mod Told
+pub mod GoesOn
 pub mod Files
 pub mod FileLaws
 pub mod FileState

@@ -1,2 +1,5 @@
 pub mod NameLemmas
 pub mod ReadingLemmas
+pub mod ImageLemmas
+pub mod SettleLemmas
+pub mod PutLemmas

@@ -8,6 +8,7 @@ use Rattle.std.proofs.lemmas.Str.{IsAscii-append}
 use Rattle.std.proofs.lemmas.Str.Ascii.{IsAscii-nil, IsAscii-cons}
 use Rattle.ls_base.specs.Txid.{hex_digit, hex_digits}
 use Rattle.replica_store.specs.NameText.{is_level, file_path}
+use Rattle.replica_store.specs.Putting.{draft_path}
 
 ascii_tested : (bs : List ℕ) → list_all (λ b. ltb b 128) bs ≡ true → IsAscii bs
 ascii_tested [] e = IsAscii-nil
@@ -42,3 +43,7 @@ ascii_path level min max known =
     let c = IsAscii-append (start ++ middle ++ hex_digits min) dash b (ascii_tested dash refl) in
     let d = IsAscii-append (start ++ middle ++ hex_digits min ++ dash) (hex_digits max) c (ascii_digits max) in
     IsAscii-append (start ++ middle ++ hex_digits min ++ dash ++ hex_digits max) end d (ascii_tested end refl)
+
+-- and so is that of its temporary name
+pub ascii_draft : (level min max : ℕ) → is_level level ≡ true → IsAscii (draft_path (file_path level min max))
+ascii_draft level min max known = IsAscii-append (file_path level min max) (codes ".tmp") (ascii_path level min max known) (ascii_tested (codes ".tmp") refl)

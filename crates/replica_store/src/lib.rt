@@ -5,12 +5,15 @@
 //! Stands on `ls_base`.
 #![tactic(auto)]
 
+mod draft;
 mod file_name;
 mod name_text;
+mod put;
 mod reading;
 #[cfg(test)]
 mod tests;
 
 pub use file_name::FileName;
 pub use name_text::{NameText, write_name};
+pub use put::Put;
 pub use reading::read_name;
