@@ -1,2 +1,3 @@
+mod StandardFacts
 pub mod NameLemmas
 pub mod ReadingLemmas
