@@ -1,3 +1,4 @@
+mod StandardFacts
 pub mod NameLemmas
 pub mod ReadingLemmas
 pub mod ImageLemmas

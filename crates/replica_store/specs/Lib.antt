@@ -1,3 +1,4 @@
 pub mod NameText
 pub mod NameLaws
 pub mod Putting
+pub mod Chain

@@ -1,19 +1,34 @@
-//! The files of a replica: their names, and their texts.
+//! The files of a replica on its disk: their names, lists of them, and how they are put, read and dropped.
 //!
-//! A name is read exactly where a text is the one that its name writes, so names and texts fit one to one.
+//! To the layer above it promises: a name is read exactly where a text is the one that it writes; a list has each
+//! name of the replica once and in order; a file that is put stands under its name whole or not at all, whatever
+//! a crash takes; and a fault comes only where the disk's own count of faults rose. Only lists and the reading of a
+//! whole file take memory.
 //!
-//! Stands on `ls_base`.
+//! Stands on `ls_base` and `crash_disk`.
 #![tactic(auto)]
 
+mod dated;
+mod dated_names;
 mod draft;
+mod error;
 mod file_name;
+mod file_names;
+mod listing;
 mod name_text;
 mod put;
 mod reading;
+mod settling;
 #[cfg(test)]
 mod tests;
 
+pub use dated::Dated;
+pub use dated_names::DatedNames;
+pub use error::StoreError;
 pub use file_name::FileName;
+pub use file_names::FileNames;
+pub use listing::list;
 pub use name_text::{NameText, write_name};
 pub use put::Put;
 pub use reading::read_name;
+pub use settling::{drop_file, settle};
