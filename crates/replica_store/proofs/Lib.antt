@@ -3,4 +3,6 @@ pub mod NameLemmas
 pub mod ReadingLemmas
 pub mod ImageLemmas
 pub mod SettleLemmas
+pub mod DropLemmas
 pub mod PutLemmas
+pub mod ListLemmas

@@ -1,4 +1,6 @@
 pub mod NameText
 pub mod NameLaws
-pub mod Putting
 pub mod Chain
+pub mod Listing
+pub mod StoreError
+pub mod Putting

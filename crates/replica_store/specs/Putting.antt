@@ -55,3 +55,22 @@ pub record HasPut (path bytes : List ℕ) (before now : List Event) : Type 0 whe
   pub may : MayPut path bytes before now
   pub stays : (image : Files) → IsCrashImage now image → get image path ≡ Some bytes
   pub names : LeavesTheNames now
+
+-- The files are as they were, a crash leaves nothing that it might not have left before, and exactly the names that
+-- are there.
+pub record IsSettled (before now : List Event) : Type 0 where
+  pub files : (q : List ℕ) → file_at now q ≡ file_at before q
+  pub at_a_stop : (image : Files) → WasCrashImageSince now (length before) image → (q : List ℕ) → MayStandAt before q (get image q)
+  pub names : LeavesTheNames now
+
+-- Every other file is as it was, and the dropped one too or gone. A crash at any moment since leaves under each name
+-- what it might have left before, or the dropped one gone.
+pub record MayDrop (path : List ℕ) (before now : List Event) : Type 0 where
+  pub file : (file_at now path ≡ file_at before path) ⊎ IsAbsent now path
+  pub others : (q : List ℕ) → q ≢ path → file_at now q ≡ file_at before q
+  pub at_a_stop : (image : Files) → WasCrashImageSince now (length before) image → (q : List ℕ) → MayStandAt before q (get image q) ⊎ ((q ≡ path) × (get image q ≡ None))
+
+-- the dropped file is gone
+pub record HasDropped (path : List ℕ) (before now : List Event) : Type 0 where
+  pub file : IsAbsent now path
+  pub may : MayDrop path before now

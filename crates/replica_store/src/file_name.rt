@@ -8,7 +8,7 @@ use ls_base::Txid;
 
 /// The name of a transaction file: its level, and the first and the last transaction that it holds. The
 /// level is 0, 1, 2, 3 or 9, and a file of level 9 begins with the first transaction.
-#[derive(Clone, Copy, Debug, PartialEq, Eq)]
+#[derive(Clone, Copy, Debug, PartialEq, Eq, PartialOrd, Ord)]
 pub struct FileName {
     pub level: u8,
     pub min: Txid,
@@ -25,6 +25,7 @@ impl FileName {
         ensures level { IfSome result (λ name. name.level ≡ level) }
         ensures min { IfSome result (λ name. name.min ≡ min) }
         ensures max { IfSome result (λ name. name.max ≡ max) }
+        ensures valid { IfSome result (λ name. IsName name.level name.min name.max) }
         ensures only { IfNone result (IsName level min max → ⊥) }
     {
         let known = [0, 1, 2, 3, 9].contains(&level);

@@ -5,7 +5,7 @@
 //! a crash takes; and a fault comes only where the disk's own count of faults rose. Only lists and the reading of a
 //! whole file take memory.
 //!
-//! Stands on `ls_base` and `crash_disk`.
+//! Stands on `ls_base`, `crash_disk` and `ltx_format`.
 #![tactic(auto)]
 
 mod dated;
@@ -24,7 +24,7 @@ mod tests;
 
 pub use dated::Dated;
 pub use dated_names::DatedNames;
-pub use error::StoreError;
+pub use error::{Damage, StoreError};
 pub use file_name::FileName;
 pub use file_names::FileNames;
 pub use listing::list;

@@ -22,6 +22,7 @@ fn txid_of(digits: &[u8]) -> Option<Txid>
 /// transactions in 16 lower-case hexadecimal digits. `None` exactly for any other text.
 pub fn read_name(text: &str) -> Option<FileName>
     ensures found { IfSome result (λ name. text.now ≡ file_path name.level name.min name.max) }
+    ensures valid { IfSome result (λ name. IsName name.level name.min name.max) }
     ensures only { IfNone result ((level min max : ℕ) → IsName level min max → text.now ≢ file_path level min max) }
 {
     let bytes = text.as_bytes();

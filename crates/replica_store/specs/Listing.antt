@@ -1,0 +1,36 @@
+-- What a list of a replica's files has.
+use Rattle.std.specs.Prelude.{◌≡◌, ◌≢◌, ◌↔◌, ℕ, List, [], ◌∷◌, map, ◌⊎◌}
+use Rattle.std.specs.List.{Contains, IsDistinct}
+use Rattle.crash_disk.specs.declared.event.Event.{Event}
+use Rattle.crash_disk.specs.Files.{IsThere}
+use Rattle.crash_disk.specs.FileLaws.{is_name}
+use Rattle.replica_store.specs.declared.file_name.FileName.{FileName}
+use Rattle.replica_store.specs.NameText.{IsName, file_path}
+use Rattle.replica_store.specs.Chain.{IsListOrdered}
+
+-- the path of a file
+abbrev pub path_of : FileName → List ℕ
+path_of name = file_path name.level name.min name.max
+
+abbrev pub paths_of : List FileName → List (List ℕ)
+paths_of names = map path_of names
+
+-- the text is the path that some name writes
+pub record IsFilePath (text : List ℕ) : Type 0 where
+  pub level : ℕ
+  pub min : ℕ
+  pub max : ℕ
+  pub valid : IsName level min max
+  pub is : text ≡ file_path level min max
+
+-- the names are those of the files that are there under the path of a name, each once, in list order
+pub record AreListed (events : List Event) (names : List FileName) : Type 0 where
+  pub ordered : IsListOrdered names
+  pub once : IsDistinct is_name (paths_of names)
+  pub each : (text : List ℕ) → Contains (paths_of names) text ↔ (IsFilePath text × IsThere events text)
+
+-- the names that these texts write, in the order of the texts; a text that is no path is passed over
+abbrev pub AreReadOf : List (List ℕ) → List FileName → Type 0
+AreReadOf [] names = names ≡ []
+AreReadOf (text ∷ texts) names =
+    ((name : FileName) × (rest : List FileName) × (names ≡ name ∷ rest) × (text ≡ path_of name) × IsFilePath text × AreReadOf texts rest) ⊎ ((IsFilePath text → ⊥) × AreReadOf texts names)

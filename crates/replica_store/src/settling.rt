@@ -1,0 +1,32 @@
+//! Making the names of a replica stay, and dropping one.
+
+ghost use Rattle.std.specs.Prelude.{◌≡◌, OnOk, OnErr};
+ghost use Rattle.crash_disk.specs.Fault.{HasCause};
+ghost use Rattle.crash_disk.specs.GoesOn.{GoesOn};
+ghost use Rattle.replica_store.specs.NameText.{file_path};
+ghost use Rattle.replica_store.specs.Putting.{IsSettled, HasDropped, MayDrop};
+
+use crate::file_name::FileName;
+use crate::name_text::write_name;
+use crash_disk::{Disk, DiskFault};
+
+/// Brings the names to the disk: after Ok a crash leaves exactly the files that are there. Takes no memory.
+pub fn settle<S: Disk>(store: &mut S) -> Result<(), DiskFault>
+    ensures ok { OnOk result (GoesOn (S.told store.old) (S.told store.new) IsSettled) }
+    ensures err { OnErr result (S.told store.new ≡ S.told store.old) }
+    ensures same_folder { S.folder store.new ≡ S.folder store.old }
+    ensures cause { HasCause (S.fault_count store.old) (S.fault_count store.new) result }
+{
+    store.sync_names()
+}
+
+/// Removes the file of this name. A crash may leave it until the names are brought to the disk. Takes no
+/// memory.
+pub fn drop_file<S: Disk>(store: &mut S, name: &FileName) -> Result<(), DiskFault>
+    ensures ok { OnOk result (GoesOn (S.told store.old) (S.told store.new) (HasDropped (file_path name.now.level name.now.min name.now.max))) }
+    ensures err { OnErr result (GoesOn (S.told store.old) (S.told store.new) (MayDrop (file_path name.now.level name.now.min name.now.max))) }
+    ensures same_folder { S.folder store.new ≡ S.folder store.old }
+    ensures cause { HasCause (S.fault_count store.old) (S.fault_count store.new) result }
+{
+    store.remove(write_name(name).as_str())
+}
