@@ -1,8 +1,8 @@
 -- What a list of a replica's files has.
-use Rattle.std.specs.Prelude.{◌≡◌, ◌≢◌, ◌↔◌, ℕ, List, [], ◌∷◌, map, ◌⊎◌}
+use Rattle.std.specs.Prelude.{◌≡◌, ◌≢◌, ◌↔◌, ℕ, List, [], ◌∷◌, map, unwrap_or, ◌⊎◌}
 use Rattle.std.specs.List.{Contains, IsDistinct}
 use Rattle.crash_disk.specs.declared.event.Event.{Event}
-use Rattle.crash_disk.specs.Files.{IsThere}
+use Rattle.crash_disk.specs.Files.{IsThere, file_at}
 use Rattle.crash_disk.specs.FileLaws.{is_name}
 use Rattle.replica_store.specs.declared.file_name.FileName.{FileName}
 use Rattle.replica_store.specs.NameText.{IsName, file_path}
@@ -34,3 +34,7 @@ abbrev pub AreReadOf : List (List ℕ) → List FileName → Type 0
 AreReadOf [] names = names ≡ []
 AreReadOf (text ∷ texts) names =
     ((name : FileName) × (rest : List FileName) × (names ≡ name ∷ rest) × (text ≡ path_of name) × IsFilePath text × AreReadOf texts rest) ⊎ ((IsFilePath text → ⊥) × AreReadOf texts names)
+
+-- the bytes under a path; an absent file has none
+abbrev pub bytes_under : List Event → List ℕ → List ℕ
+bytes_under events path = unwrap_or (file_at events path) []
