@@ -1,3 +1,4 @@
 pub mod LtxFormat
+pub mod FirstFault
 pub mod Reading
 pub mod OneSpelling
