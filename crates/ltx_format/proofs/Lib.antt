@@ -1,5 +1,8 @@
 pub mod Crc64Lemmas
 pub mod StepLemmas
+pub mod TestSteps
+pub mod HeaderFaults
+pub mod BlockFaults
 pub mod BlockLoop
 pub mod FieldLaws
 pub mod PlaceLaws

@@ -45,12 +45,7 @@ abbrev pub is_at_rest : List ℕ → Bool
 is_at_rest bytes =
     number w64 48 bytes == 0 && number w64 56 bytes == 0 && number w64 64 bytes == 0 && nat_le (2 ^ 63) (number w64 80 bytes)
 
--- the pre-apply checksum, the node and the 12 bytes that are kept free are 0, and the rest says a place
-abbrev pub are_others_right : List ℕ → Bool
-are_others_right bytes =
-    number w64 40 bytes == 0 && (is_in_log bytes || is_at_rest bytes) && number w64 72 bytes == 0
-    && number w64 88 bytes == 0 && number w32 96 bytes == 0
-
+-- The last five are the pre-apply checksum, the place, the node, and the 12 bytes that are kept free.
 abbrev pub header_tests : List ℕ → Tests
 header_tests bytes =
     (nat_le 100 (length bytes), Short)
@@ -58,9 +53,13 @@ header_tests bytes =
     ∷ (number w32 4 bytes % 2 == 0, Compressed)
     ∷ (number w32 4 bytes == 2, BadFlags)
     ∷ (is_page_size (page_size bytes), BadPageSize)
-    ∷ (nat_le 1 (commit bytes) && nat_le (commit bytes * page_size bytes) (2 ^ 30), BadCommit)
-    ∷ (nat_le 1 (min_txid bytes) && nat_le (min_txid bytes) (number w64 24 bytes), BadRange)
-    ∷ (are_others_right bytes, BadReserved)
+    ∷ (not (commit bytes == 0) && nat_le (commit bytes * page_size bytes) (2 ^ 30), BadCommit)
+    ∷ (not (min_txid bytes == 0) && nat_le (min_txid bytes) (number w64 24 bytes), BadRange)
+    ∷ (number w64 40 bytes == 0, BadReserved)
+    ∷ (is_in_log bytes || is_at_rest bytes, BadReserved)
+    ∷ (number w64 72 bytes == 0, BadReserved)
+    ∷ (number w64 88 bytes == 0, BadReserved)
+    ∷ (number w32 96 bytes == 0, BadReserved)
     ∷ []
 
 -- the first fault of the first 100 bytes

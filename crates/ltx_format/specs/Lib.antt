@@ -2,3 +2,4 @@ pub mod LtxFormat
 pub mod FirstFault
 pub mod Reading
 pub mod OneSpelling
+pub mod FaultlessFiles
