@@ -11,4 +11,5 @@ pub mod BlockLaws
 pub mod PageLemmas
 pub mod FileLaws
 pub mod Theorems
+pub mod FileFaults
 pub mod StandardFacts
