@@ -7,7 +7,8 @@ use Rattle.std.specs.FinMap.{FinMap, entries, empty, insert, len, put, entries-i
 use Rattle.std.proofs.lemmas.Bool.{and_parts, le-ltb, ne_eqb, ltb-true}
 use Rattle.std.proofs.lemmas.List.{append-nil, nil_from_length}
 use Rattle.ltx_format.specs.declared.fault.LtxFault.{LtxFault}
-use Rattle.ltx_format.specs.Reading.{◌>>=◌, number_at, page_at, blocks_at, behind, where_true}
+use Rattle.ltx_format.specs.declared.fault.LtxFault.TheVariants.{BadOrder}
+use Rattle.ltx_format.specs.Reading.{◌>>=◌, block_at, last_at, page_at, blocks_at, where_true}
 use Rattle.ltx_format.proofs.StepLemmas.{bind_ok, where_true-ok}
 
 abbrev pub Blocks : Type 0
@@ -42,7 +43,7 @@ module _ (front : Blocks) (size commit last i : ℕ) (bytes : List ℕ) (total :
   left : commit - i ≡ suc (commit - (i + 1))
   left = omega arith
 
-  pub goes_on : (number : ℕ) (after page rest : List ℕ) → number_at w32 bytes ≡ Ok (number, after) → eqb number 0 ≡ false → page_at size commit last number after ≡ Ok (page, rest)
+  pub goes_on : (number : ℕ) (after page rest : List ℕ) → block_at bytes ≡ Ok (number, after) → eqb number 0 ≡ false → page_at size commit last number after ≡ Ok (page, rest)
       → with_front (front ++ (number, page) ∷ []) (blocks_at (commit - (i + 1)) size commit number rest) ≡ total
   unfolding blocks_at
   goes_on number after page rest read some read_page =
@@ -50,31 +51,42 @@ module _ (front : Blocks) (size commit last i : ℕ) (bytes : List ℕ) (total :
       rw (left, read, some, read_page) (regroup front (number, page) (blocks_at (commit - (i + 1)) size commit number rest)) in
       sym one ∙ so_far
 
-  pub ends : (after : List ℕ) → number_at w32 bytes ≡ Ok (0, after) → total ≡ Ok (front, bytes)
+  pub ends : (after : List ℕ) → block_at bytes ≡ Ok (0, after) → total ≡ Ok (front, after)
   unfolding blocks_at
   ends after read =
-      let one : with_front front (blocks_at (commit - i) size commit last bytes) ≡ Ok (front, bytes) = rw (left, read) (ap (λ (blocks : Blocks). Ok (blocks, bytes)) (append-nil front)) in
+      let one : with_front front (blocks_at (commit - i) size commit last bytes) ≡ Ok (front, after) = rw (left, read) (ap (λ (blocks : Blocks). Ok (blocks, after)) (append-nil front)) in
       sym so_far ∙ one
 
-  pub no_number : (fault : LtxFault) → number_at w32 bytes ≡ Err fault → total ≡ Err fault
+  pub no_number : (fault : LtxFault) → block_at bytes ≡ Err fault → total ≡ Err fault
   unfolding blocks_at
   no_number fault read =
       let one : with_front front (blocks_at (commit - i) size commit last bytes) ≡ Err fault = rw (left, read) refl in
       sym so_far ∙ one
 
-  pub no_page : (number : ℕ) (after : List ℕ) (fault : LtxFault) → number_at w32 bytes ≡ Ok (number, after) → eqb number 0 ≡ false → page_at size commit last number after ≡ Err fault → total ≡ Err fault
+  pub no_page : (number : ℕ) (after : List ℕ) (fault : LtxFault) → block_at bytes ≡ Ok (number, after) → eqb number 0 ≡ false → page_at size commit last number after ≡ Err fault → total ≡ Err fault
   unfolding blocks_at
   no_page number after fault read some read_page =
       let one : with_front front (blocks_at (commit - i) size commit last bytes) ≡ Err fault = rw (left, read, some, read_page) refl in
       sym so_far ∙ one
 
--- behind the last turn
-pub is_done : (front : Blocks) (size commit last i : ℕ) (bytes : List ℕ) (total : Result (Blocks × List ℕ) LtxFault) → commit ≤ i → with_front front (blocks_at (commit - i) size commit last bytes) ≡ total → total ≡ Ok (front, bytes)
-unfolding blocks_at
-is_done front size commit last i bytes total le so_far =
-    let none : commit - i ≡ 0 = omega arith in
-    let one : with_front front (blocks_at (commit - i) size commit last bytes) ≡ Ok (front, bytes) = rw none (ap (λ (blocks : Blocks). Ok (blocks, bytes)) (append-nil front)) in
-    sym so_far ∙ one
+-- ---- behind the last turn
+
+module _ (front : Blocks) (size commit last i : ℕ) (bytes : List ℕ) (total : Result (Blocks × List ℕ) LtxFault) (done : commit ≤ i)
+    (so_far : with_front front (blocks_at (commit - i) size commit last bytes) ≡ total) where
+  none_left : commit - i ≡ 0
+  none_left = omega arith
+
+  pub is_done : (rest : List ℕ) → last_at bytes ≡ Ok rest → total ≡ Ok (front, rest)
+  unfolding blocks_at
+  is_done rest read =
+      let one : with_front front (blocks_at (commit - i) size commit last bytes) ≡ Ok (front, rest) = rw (none_left, read) (ap (λ (blocks : Blocks). Ok (blocks, rest)) (append-nil front)) in
+      sym so_far ∙ one
+
+  pub no_end : (fault : LtxFault) → last_at bytes ≡ Err fault → total ≡ Err fault
+  unfolding blocks_at
+  no_end fault read =
+      let one : with_front front (blocks_at (commit - i) size commit last bytes) ≡ Err fault = rw (none_left, read) refl in
+      sym so_far ∙ one
 
 -- ---- the pages so far
 
@@ -97,13 +109,10 @@ pub up_to_more : (k : ℕ) (v : List ℕ) (last : ℕ) (blocks : Blocks) → Are
 up_to_more k v last [] up_to above = (omega arith, tt)
 up_to_more k v last (block ∷ blocks) up_to above = let low = up_to.0 in (omega arith, up_to_more k v last blocks up_to.1 above)
 
-abbrev page_fits : ℕ → ℕ → ℕ → ℕ → List ℕ → Bool
-page_fits size commit last number rest = ltb last number && leb number commit && leb size (length rest)
-
 -- a page that is read has a number above the last
 pub page_rises : (size commit last number : ℕ) (bytes : List ℕ) (x : List ℕ × List ℕ) → page_at size commit last number bytes ≡ Ok x → last < number
 unfolding page_at
 page_rises size commit last number bytes x e =
-    let b = bind_ok (behind w16 0 bytes) (λ rest. where_true (page_fits size commit last number rest) (take size rest, drop size rest)) x e in
-    let tests = (where_true-ok (page_fits size commit last number b.0) (take size b.0, drop size b.0) x b.2).0 in
-    ltb-true last number (and_parts (ltb last number) _ (and_parts (ltb last number && leb number commit) _ tests).0).0
+    let b = bind_ok (where_true (ltb last number && leb number commit) (BadOrder number) bytes) _ x e in
+    let test = (where_true-ok (ltb last number && leb number commit) (BadOrder number) bytes b.0 b.1).0 in
+    ltb-true last number (and_parts (ltb last number) (leb number commit) test).0

@@ -1,11 +1,12 @@
 -- The laws of the readers of numbers: what is read is spelled so, and what is spelled so is read.
-use Rattle.std.proofs.Common.{◌≡◌, ℕ, ◌+◌, ◌^◌, ◌<◌, ◌≤◌, Bool, true, false, cond, eqb, ltb, List, ◌++◌, length, get_or, take, drop, Ok, Err, refl, sym, ap, subst, ◌∙◌, append_assoc, arith, inl, inr}
+use Rattle.std.proofs.Common.{◌≡◌, ℕ, ◌+◌, ◌%◌, ◌^◌, ◌<◌, ◌≤◌, Bool, true, false, cond, eqb, ltb, List, ◌++◌, length, get_or, take, drop, Ok, Err, refl, sym, ap, subst, ◌∙◌, append_assoc, arith, inl, inr}
 use Rattle.std.specs.Int.{Width, w16, w32, w64, byte_len, from_be_bytes, to_be_bytes}
 use Rattle.std.proofs.lemmas.Bool.{cases_lt, ltb-false, le-ltb, eqb-true, eq-eqb}
 use Rattle.std.proofs.lemmas.List.{take_at, drop_at, take-append-drop, length-append, length-take, get_or-drop, get_or-take, get_or_past}
 use Rattle.std.proofs.lemmas.Nat.{be_bytes_2, be_bytes_4, be_bytes_8, from_be_bytes-to_be_bytes_2, from_be_bytes-to_be_bytes_4, from_be_bytes-to_be_bytes_8}
-use Rattle.ltx_format.specs.declared.fault.LtxFault.TheVariants.{NotFile}
-use Rattle.ltx_format.specs.Reading.{number_at, behind}
+use Rattle.ltx_format.specs.declared.fault.LtxFault.{LtxFault}
+use Rattle.ltx_format.specs.declared.fault.LtxFault.TheVariants.{Short, Compressed, BadFlags}
+use Rattle.ltx_format.specs.Reading.{number_at, behind, flags_from, passes}
 use Rattle.ltx_format.proofs.StepLemmas.{bind_ok, where_true-ok}
 
 -- each item is below 256
@@ -61,7 +62,7 @@ numbers64 = record {
   below = λ bytes small. omega (arith, small 0, small 1, small 2, small 3, small 4, small 5, small 6, small 7);
 }
 
-short_or : {A : Type 0} (test : Bool) (x y : A) → cond test (Err NotFile) (Ok x) ≡ Ok y → (test ≡ false) × (x ≡ y)
+short_or : {A : Type 0} (test : Bool) (x y : A) → cond test (Err Short) (Ok x) ≡ Ok y → (test ≡ false) × (x ≡ y)
 short_or true x y e = absurd cc
 short_or false x y e = (refl, cc)
 
@@ -85,14 +86,25 @@ module _ {w : Width} {limit : ℕ} (numbers : IsNumbers w limit) where
       let long : ltb (length (to_be_bytes w n ++ rest)) (byte_len w) ≡ false = le-ltb _ _ (omega (arith, length-append (to_be_bytes w n) rest)) in
       rw (long, take_at (to_be_bytes w n) rest (byte_len w) len, drop_at (to_be_bytes w n) rest (byte_len w) len, numbers.number_again n lt) refl
 
-  pub behind-read : (n : ℕ) (bytes rest : List ℕ) → AreBytes bytes → behind w n bytes ≡ Ok rest → BeginsWith bytes (to_be_bytes w n) rest
+  pub behind-read : (n : ℕ) (fault : LtxFault) (bytes rest : List ℕ) → AreBytes bytes → behind w n fault bytes ≡ Ok rest → BeginsWith bytes (to_be_bytes w n) rest
   unfolding behind
-  behind-read n bytes rest small e =
+  behind-read n fault bytes rest small e =
       let a = bind_ok (number_at w bytes) _ rest e in
-      let b = where_true-ok (eqb a.0.0 n) a.0.1 rest a.2 in
+      let b = where_true-ok (eqb a.0.0 n) fault a.0.1 rest a.2 in
       let read = number-read bytes a.0 small a.1 in
       subst (λ (m : ℕ). BeginsWith bytes (to_be_bytes w m) rest) (eqb-true a.0.0 n b.0) (subst (λ (r : List ℕ). BeginsWith bytes (to_be_bytes w a.0.0) r) b.1 read.0)
 
-  pub behind-again : (n : ℕ) (rest : List ℕ) → n < limit → behind w n (to_be_bytes w n ++ rest) ≡ Ok rest
+  pub behind-again : (n : ℕ) (fault : LtxFault) (rest : List ℕ) → n < limit → behind w n fault (to_be_bytes w n ++ rest) ≡ Ok rest
   unfolding behind
-  behind-again n rest lt = rw (number-again n rest lt, eq-eqb n n refl) refl
+  behind-again n fault rest lt = rw (number-again n rest lt, eq-eqb n n refl) refl
+
+pub flags-read : (flags found : ℕ) (x : Unit {0}) → flags_from flags found ≡ Ok x → found ≡ flags
+unfolding flags_from
+flags-read flags found x e =
+    let plain = bind_ok (passes (eqb (found % 2) 0) Compressed) _ x e in
+    eqb-true found flags (where_true-ok (eqb found flags) BadFlags tt x plain.2).0
+
+-- a number whose bit 0 isn't set is what it says
+pub flags-again : (flags : ℕ) → flags % 2 ≡ 0 → flags_from flags flags ≡ Ok tt
+unfolding flags_from
+flags-again flags plain = rw (eq-eqb (flags % 2) 0 plain, eq-eqb flags flags refl) refl

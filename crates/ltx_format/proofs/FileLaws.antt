@@ -2,23 +2,24 @@
 use Rattle.std.proofs.Common.{◌≡◌, ℕ, ◌+◌, ◌-◌, ◌^◌, ◌<◌, true, eqb, not, List, [], ◌++◌, length, take, Ok, refl, sym, ap, subst, ◌∙◌, append_assoc, arith, inl, inr}
 use Rattle.std.specs.Prelude.{replicate}
 use Rattle.std.specs.List.{flat_map}
-use Rattle.std.specs.Int.{w16, w32, w64, to_be_bytes}
+use Rattle.std.specs.Int.{w64, to_be_bytes}
 use Rattle.std.proofs.Math.Nat.{le-mul_of_pos_right}
 use Rattle.std.proofs.lemmas.Bool.{cases_eq, or_cases, or_left, or_right, not-true, not_from_false, eqb-true, eqb-false, eq-eqb, ne_eqb}
 use Rattle.std.proofs.lemmas.List.{nil_from_length, take_at, length-append}
+use Rattle.ltx_format.specs.declared.fault.LtxFault.TheVariants.{BadReserved, BadOrder, BadSum, Extra}
 use Rattle.ltx_format.specs.declared.header.LtxHeader.{LtxHeader}
 use Rattle.ltx_format.specs.LtxFormat.{header_bytes, page_block, file_sum, IsHeader}
-use Rattle.ltx_format.specs.Reading.{where_true, behind, header_at, blocks_at, end_at, is_whole, file_at}
+use Rattle.ltx_format.specs.Reading.{where_true, passes, number_at, sum_before, header_at, blocks_at, end_at, is_whole, file_at}
 use Rattle.ltx_format.proofs.StepLemmas.{bind_then, where_true-ok, same_ok}
-use Rattle.ltx_format.proofs.FieldLaws.{AreBytes, numbers16, numbers32, numbers64, behind-read, behind-again}
+use Rattle.ltx_format.proofs.FieldLaws.{AreBytes, numbers64, number-read, number-again}
 use Rattle.ltx_format.proofs.HeaderLaws.{joined, header-read, header-again, size_bounds}
 use Rattle.ltx_format.proofs.BlockLoop.{Blocks}
-use Rattle.ltx_format.proofs.BlockLaws.{AreBlocks, blocks-read, blocks-again}
+use Rattle.ltx_format.proofs.BlockLaws.{AreBlocks, ended, blocks-read, blocks-again}
 
 -- ---- the end
 
 abbrev end_bytes : ℕ → List ℕ
-end_bytes sum = to_be_bytes w32 0 ++ (to_be_bytes w16 0 ++ (to_be_bytes w64 0 ++ to_be_bytes w64 sum))
+end_bytes sum = to_be_bytes w64 0 ++ to_be_bytes w64 sum
 
 -- the sum that a file is to end with
 abbrev own_sum : List ℕ → ℕ
@@ -27,24 +28,23 @@ own_sum file = file_sum (take (length file - 8) file)
 end-read : (file bytes : List ℕ) (x : Unit {0}) → AreBytes bytes → end_at file bytes ≡ Ok x → bytes ≡ end_bytes (own_sum file)
 unfolding end_at
 end-read file bytes x small e =
-    bind_then (behind w32 0 bytes) _ x e (λ flags flags_is e.
-    bind_then (behind w16 0 flags) _ x e (λ check check_is e.
-    bind_then (behind w64 0 check) _ x e (λ sum sum_is e.
-    bind_then (behind w64 (own_sum file) sum) _ x e (λ rest rest_is e.
-    let a = behind-read numbers32 0 bytes flags small flags_is in
-    let b = behind-read numbers16 0 flags check a.small check_is in
-    let c = behind-read numbers64 0 check sum b.small sum_is in
-    let d = behind-read numbers64 (own_sum file) sum rest c.small rest_is in
-    let nothing : rest ≡ [] = nil_from_length rest (eqb-true _ _ (where_true-ok (eqb (length rest) 0) tt x e).0) in
-    let last : sum ≡ to_be_bytes w64 (own_sum file) = d.whole ∙ ap (λ (y : List ℕ). to_be_bytes w64 (own_sum file) ++ y) nothing in
-    joined (to_be_bytes w32 0) a.whole (joined (to_be_bytes w16 0) b.whole (joined (to_be_bytes w64 0) c.whole last))))))
+    bind_then (number_at w64 bytes) _ x e (λ check check_is e.
+    bind_then (number_at w64 check.1) _ x e (λ kept kept_is e.
+    bind_then (passes (eqb check.0 0) BadReserved) _ x e (λ zero zero_is e.
+    bind_then (passes (eqb kept.0 (sum_before file check.1)) (BadSum kept.0 (sum_before file check.1))) _ x e (λ right right_is e.
+    let a = number-read numbers64 bytes check small check_is in
+    let b = number-read numbers64 check.1 kept a.0.small kept_is in
+    let none : check.0 ≡ 0 = eqb-true _ _ (where_true-ok (eqb check.0 0) BadReserved tt zero zero_is).0 in
+    let same : kept.0 ≡ sum_before file check.1 = eqb-true _ _ (where_true-ok (eqb kept.0 (sum_before file check.1)) (BadSum kept.0 (sum_before file check.1)) tt right right_is).0 in
+    let nothing : kept.1 ≡ [] = nil_from_length kept.1 (eqb-true _ _ (where_true-ok (eqb (length kept.1) 0) Extra tt x e).0) in
+    let last : check.1 ≡ to_be_bytes w64 kept.0 = b.0.whole ∙ ap (λ (y : List ℕ). to_be_bytes w64 kept.0 ++ y) nothing in
+    let sum_is : kept.0 ≡ own_sum file = same ∙ ap (λ (n : ℕ). file_sum (take (length file - n) file)) (ap length last) in
+    a.0.whole ∙ ap (λ (n : ℕ). to_be_bytes w64 n ++ check.1) none ∙ ap (λ (y : List ℕ). to_be_bytes w64 0 ++ y) (last ∙ ap (to_be_bytes w64) sum_is)))))
 
 end-again : (file : List ℕ) → own_sum file < 2 ^ 64 → end_at file (end_bytes (own_sum file)) ≡ Ok tt
 unfolding end_at
 end-again file fits =
-    let at_check = to_be_bytes w16 0 ++ (to_be_bytes w64 0 ++ to_be_bytes w64 (own_sum file)) in
-    let at_sum = to_be_bytes w64 0 ++ to_be_bytes w64 (own_sum file) in
-    rw (behind-again numbers32 0 at_check (omega arith), behind-again numbers16 0 at_sum (omega arith), behind-again numbers64 0 (to_be_bytes w64 (own_sum file)) (omega arith), behind-again numbers64 (own_sum file) [] fits) refl
+    rw (number-again numbers64 0 (to_be_bytes w64 (own_sum file)) (omega arith), number-again numbers64 (own_sum file) [] fits, eq-eqb (own_sum file) (own_sum file) refl) refl
 
 -- ---- the whole
 
@@ -52,10 +52,11 @@ end-again file fits =
 abbrev pub before_sum : LtxHeader → Blocks → List ℕ
 before_sum h blocks = header_bytes h ++ flat_map page_block blocks ++ replicate 6 0 ++ replicate 8 0
 
-regrouped : (header blocks : List ℕ) (sum : ℕ) → (header ++ blocks ++ replicate 6 0 ++ replicate 8 0) ++ to_be_bytes w64 sum ≡ header ++ (blocks ++ end_bytes sum)
+regrouped : (header blocks : List ℕ) (sum : ℕ) → (header ++ blocks ++ replicate 6 0 ++ replicate 8 0) ++ to_be_bytes w64 sum ≡ header ++ ((blocks ++ replicate 6 0) ++ end_bytes sum)
 regrouped header blocks sum =
-    append_assoc (header ++ blocks ++ replicate 6 0) (replicate 8 0) (to_be_bytes w64 sum) ∙ append_assoc (header ++ blocks) (replicate 6 0) (replicate 8 0 ++ to_be_bytes w64 sum)
-    ∙ append_assoc header blocks (end_bytes sum)
+    append_assoc (header ++ blocks ++ replicate 6 0) (replicate 8 0) (to_be_bytes w64 sum)
+    ∙ ap (λ (x : List ℕ). x ++ end_bytes sum) (append_assoc header blocks (replicate 6 0))
+    ∙ append_assoc header (blocks ++ replicate 6 0) (end_bytes sum)
 
 -- the sum of a file that is these bytes and a sum is theirs
 own_sum-is : (before file : List ℕ) (sum : ℕ) → file ≡ before ++ to_be_bytes w64 sum → take (length file - 8) file ≡ before
@@ -92,14 +93,14 @@ unfolding file_at
 file-read bytes x small e =
     bind_then (header_at bytes) _ x e (λ header header_is e.
     bind_then (blocks_at header.0.commit header.0.size header.0.commit 0 header.1) _ x e (λ blocks blocks_is e.
-    bind_then (where_true (is_whole header.0 blocks.0) blocks.0) _ x e (λ every every_is e.
-    bind_then (end_at bytes blocks.1) _ x e (λ ended ended_is e.
+    bind_then (where_true (is_whole header.0 blocks.0) (BadOrder 0) blocks.0) _ x e (λ every every_is e.
+    bind_then (end_at bytes blocks.1) _ x e (λ end end_is e.
     let a = header-read bytes header small header_is in
     let b = blocks-read header.0.commit header.0.size header.0.commit 0 header.1 blocks a.0.small blocks_is in
-    let c = where_true-ok (is_whole header.0 blocks.0) blocks.0 every every_is in
+    let c = where_true-ok (is_whole header.0 blocks.0) (BadOrder 0) blocks.0 every every_is in
     let before = before_sum header.0 blocks.0 in
     let parts : bytes ≡ before ++ to_be_bytes w64 (own_sum bytes) =
-    joined (header_bytes header.0) a.0.whole (joined (flat_map page_block blocks.0) b.0.whole (end-read bytes blocks.1 ended b.0.small ended_is))
+    joined (header_bytes header.0) a.0.whole (joined (ended blocks.0) b.0.whole (end-read bytes blocks.1 end b.0.small end_is))
     ∙ sym (regrouped (header_bytes header.0) (flat_map page_block blocks.0) (own_sum bytes)) in
     let sum_is : own_sum bytes ≡ file_sum before = ap file_sum (own_sum-is before bytes (own_sum bytes) parts) in
     let made : LtxHeader × Blocks = (header.0, every) in
@@ -116,10 +117,10 @@ file-again bytes h blocks small is fits =
     let before = before_sum h blocks in
     let sum_is : own_sum bytes ≡ file_sum before = ap file_sum (own_sum-is before bytes (file_sum before) is.spelled) in
     let ending = end_bytes (own_sum bytes) in
-    let spelled : bytes ≡ header_bytes h ++ (flat_map page_block blocks ++ ending) =
+    let spelled : bytes ≡ header_bytes h ++ (ended blocks ++ ending) =
     subst (λ (sum : ℕ). bytes ≡ before ++ to_be_bytes w64 sum) (sym sum_is) is.spelled ∙ regrouped (header_bytes h) (flat_map page_block blocks) (own_sum bytes) in
-    let header_is : header_at bytes ≡ Ok (h, flat_map page_block blocks ++ ending) = ap header_at spelled ∙ header-again h (flat_map page_block blocks ++ ending) is.header in
+    let header_is : header_at bytes ≡ Ok (h, ended blocks ++ ending) = ap header_at spelled ∙ header-again h (ended blocks ++ ending) is.header in
     let commit_fits = le-mul_of_pos_right h.commit (size_bounds h.size is.header.size).0 in
     let database_fits = is.header.small in
-    let blocks_is = blocks-again h.commit h.size h.commit 0 blocks (to_be_bytes w16 0 ++ (to_be_bytes w64 0 ++ to_be_bytes w64 (own_sum bytes))) is.blocks (omega arith) (omega arith) in
+    let blocks_is = blocks-again h.commit h.size h.commit 0 blocks ending is.blocks (omega arith) (omega arith) in
     rw (header_is, blocks_is, true-whole h blocks is.whole, end-again bytes (subst (λ (sum : ℕ). sum < 2 ^ 64) (sym sum_is) fits)) refl

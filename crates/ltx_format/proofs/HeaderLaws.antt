@@ -1,18 +1,21 @@
 -- The laws of the reader of headers.
-use Rattle.std.proofs.Common.{◌≡◌, ℕ, zero, suc, ◌*◌, ◌^◌, ◌<◌, ◌≤◌, eqb, leb, not, ◌&&◌, List, ◌++◌, Ok, refl, sym, ap, subst, ◌∙◌, arith}
+use Rattle.std.proofs.Common.{◌≡◌, ℕ, zero, suc, ◌*◌, ◌^◌, ◌<◌, ◌≤◌, Bool, true, false, cond, eqb, leb, ltb, not, ◌&&◌, List, ◌++◌, length, Result, Ok, Err, ◌+◌, refl, sym, ap, subst, ◌∙◌, arith}
 use Rattle.std.specs.Prelude.{replicate}
 use Rattle.std.specs.Int.{w32, w64, to_be_bytes}
 use Rattle.std.proofs.Math.Nat.{pow-le-pow_right, le-mul_of_pos_right}
-use Rattle.std.proofs.lemmas.Bool.{and_parts, not-true, eqb-false, ne_eqb, leb-true, le-leb}
+use Rattle.std.proofs.lemmas.Bool.{and_parts, not-true, eqb-false, ne_eqb, leb-true, le-leb, le-ltb}
+use Rattle.std.proofs.lemmas.List.{length-append}
 use Rattle.ls_base.specs.PageSize.{IsPageSize, is_page_size}
 use Rattle.ls_base.proofs.PageSizeLemmas.{size_from_test, test_passes}
 use Rattle.ls_base.specs.declared.place.Place.{Place}
 use Rattle.ls_base.specs.declared.place.Place.TheVariants.{Wal, Rest}
+use Rattle.ltx_format.specs.declared.fault.LtxFault.{LtxFault}
+use Rattle.ltx_format.specs.declared.fault.LtxFault.TheVariants.{Short, BadMagic, BadPageSize, BadCommit, BadRange, BadReserved}
 use Rattle.ltx_format.specs.declared.header.LtxHeader.{LtxHeader}
 use Rattle.ltx_format.specs.LtxFormat.{log_fields, sum_fields, header_bytes, IsHeader}
-use Rattle.ltx_format.specs.Reading.{number_at, behind, size_from, commit_at, range_from, place_at, header_at}
+use Rattle.ltx_format.specs.Reading.{number_at, behind, flags_from, size_from, commit_at, range_from, place_at, fields_at, header_at}
 use Rattle.ltx_format.proofs.StepLemmas.{bind_then, where_true-ok, same_ok}
-use Rattle.ltx_format.proofs.FieldLaws.{AreBytes, BeginsWith, numbers32, numbers64, number-read, number-again, behind-read, behind-again}
+use Rattle.ltx_format.proofs.FieldLaws.{AreBytes, BeginsWith, numbers32, numbers64, number-read, number-again, behind-read, behind-again, flags-read, flags-again}
 use Rattle.ltx_format.proofs.PlaceLaws.{place_fields, place-read, place-again}
 
 -- ---- its own fields
@@ -24,7 +27,7 @@ positive (suc n) ne = omega arith
 size-read : (number size : ℕ) → size_from number ≡ Ok size → IsPageSize size × (number ≡ size)
 unfolding size_from
 size-read number size e =
-    let a = where_true-ok (is_page_size number) number size e in
+    let a = where_true-ok (is_page_size number) BadPageSize number size e in
     (subst IsPageSize a.1 (size_from_test number a.0), a.1)
 
 size-again : (size : ℕ) → IsPageSize size → size_from size ≡ Ok size
@@ -42,7 +45,7 @@ commit-read : (size : ℕ) (bytes : List ℕ) (x : ℕ × List ℕ) → AreBytes
 unfolding commit_at
 commit-read size bytes x small e =
     bind_then (number_at w32 bytes) _ x e (λ n n_is e.
-    let tests = where_true-ok (not (eqb n.0 0) && leb (n.0 * size) (2 ^ 30)) n x e in
+    let tests = where_true-ok (not (eqb n.0 0) && leb (n.0 * size) (2 ^ 30)) BadCommit n x e in
     let parts = and_parts (not (eqb n.0 0)) (leb (n.0 * size) (2 ^ 30)) tests.0 in
     let some = eqb-false n.0 0 (not-true _ parts.0) in
     let read = number-read numbers32 bytes n small n_is in
@@ -57,7 +60,7 @@ commit-again size commit rest positive some small =
 range-read : (min max : ℕ) (range : ℕ × ℕ) → range_from min max ≡ Ok range → (1 ≤ range.0) × (range.0 ≤ range.1) × (min ≡ range.0) × (max ≡ range.1)
 unfolding range_from
 range-read min max range e =
-    let tests = where_true-ok (not (eqb min 0) && leb min max) (min, max) range e in
+    let tests = where_true-ok (not (eqb min 0) && leb min max) BadRange (min, max) range e in
     let parts = and_parts (not (eqb min 0)) (leb min max) tests.0 in
     subst (λ (y : ℕ × ℕ). (1 ≤ y.0) × (y.0 ≤ y.1) × (min ≡ y.0) × (max ≡ y.1)) tests.1 (positive min (eqb-false min 0 (not-true _ parts.0)), leb-true _ _ parts.1, refl, refl)
 
@@ -71,6 +74,10 @@ tail_spelled : (place : Place) (rest : List ℕ) → (log_fields place ++ replic
 tail_spelled (Wal salt1 salt2 end s0 s1) rest = refl
 tail_spelled (Rest sum) rest = refl
 
+fields_long : (place : Place) → length (log_fields place ++ replicate 8 0 ++ sum_fields place ++ replicate 12 0) ≡ 52
+fields_long (Wal salt1 salt2 end s0 s1) = refl
+fields_long (Rest sum) = refl
+
 abbrev front_fields : ℕ → ℕ → ℕ → ℕ → ℕ → List ℕ → List ℕ
 front_fields size commit min max moment rest =
     to_be_bytes w32 0x4c54_5831 ++ to_be_bytes w32 2 ++ to_be_bytes w32 size ++ to_be_bytes w32 commit ++ to_be_bytes w64 min ++ to_be_bytes w64 max ++ to_be_bytes w64 moment ++ to_be_bytes w64 0 ++ rest
@@ -82,41 +89,43 @@ header_spelled h rest = ap (front_fields h.size h.commit h.min h.max h.moment) (
 pub joined : (x : List ℕ) {a b c : List ℕ} → a ≡ x ++ b → b ≡ c → a ≡ x ++ c
 joined x first second = first ∙ ap (λ (y : List ℕ). x ++ y) second
 
-pub header-read : (bytes : List ℕ) (x : LtxHeader × List ℕ) → AreBytes bytes → header_at bytes ≡ Ok x → BeginsWith bytes (header_bytes x.0) x.1 × IsHeader x.0
-unfolding header_at
-header-read bytes x small e =
-    bind_then (behind w32 0x4c54_5831 bytes) _ x e (λ flags flags_is e.
-    bind_then (behind w32 2 flags) _ x e (λ fields fields_is e.
-    bind_then (number_at w32 fields) _ x e (λ field field_is e.
+fields-read : (bytes : List ℕ) (x : LtxHeader × List ℕ) → AreBytes bytes → fields_at bytes ≡ Ok x → BeginsWith bytes (header_bytes x.0) x.1 × IsHeader x.0
+unfolding fields_at
+fields-read bytes x small e =
+    bind_then (behind w32 0x4c54_5831 BadMagic bytes) _ x e (λ magic magic_is e.
+    bind_then (number_at w32 magic) _ x e (λ flags flags_is e.
+    bind_then (flags_from 2 flags.0) _ x e (λ plain plain_is e.
+    bind_then (number_at w32 flags.1) _ x e (λ field field_is e.
     bind_then (size_from field.0) _ x e (λ size size_is e.
     bind_then (commit_at size field.1) _ x e (λ commit commit_is e.
     bind_then (number_at w64 commit.1) _ x e (λ min min_is e.
     bind_then (number_at w64 min.1) _ x e (λ max max_is e.
     bind_then (range_from min.0 max.0) _ x e (λ range range_is e.
     bind_then (number_at w64 max.1) _ x e (λ moment moment_is e.
-    bind_then (behind w64 0 moment.1) _ x e (λ log log_is e.
+    bind_then (behind w64 0 BadReserved moment.1) _ x e (λ log log_is e.
     bind_then (place_at size log) _ x e (λ place place_is e.
-    bind_then (behind w64 0 place.1) _ x e (λ free free_is e.
-    bind_then (behind w32 0 free) _ x e (λ rest rest_is e.
-    let a = behind-read numbers32 0x4c54_5831 bytes flags small flags_is in
-    let b = behind-read numbers32 2 flags fields a.small fields_is in
-    let c = number-read numbers32 fields field b.small field_is in
+    bind_then (behind w64 0 BadReserved place.1) _ x e (λ free free_is e.
+    bind_then (behind w32 0 BadReserved free) _ x e (λ rest rest_is e.
+    let a = behind-read numbers32 0x4c54_5831 BadMagic bytes magic small magic_is in
+    let b = number-read numbers32 magic flags a.small flags_is in
+    let c = number-read numbers32 flags.1 field b.0.small field_is in
     let d = size-read field.0 size size_is in
     let f = commit-read size field.1 commit c.0.small commit_is in
     let g = number-read numbers64 commit.1 min f.0.small min_is in
     let i = number-read numbers64 min.1 max g.0.small max_is in
     let j = range-read min.0 max.0 range range_is in
     let k = number-read numbers64 max.1 moment i.0.small moment_is in
-    let l = behind-read numbers64 0 moment.1 log k.0.small log_is in
+    let l = behind-read numbers64 0 BadReserved moment.1 log k.0.small log_is in
     let m = place-read size log place l.small place_is in
-    let n = behind-read numbers64 0 place.1 free m.0.small free_is in
-    let o = behind-read numbers32 0 free rest n.small rest_is in
+    let n = behind-read numbers64 0 BadReserved place.1 free m.0.small free_is in
+    let o = behind-read numbers32 0 BadReserved free rest n.small rest_is in
     let h : LtxHeader = record { size = size; commit = commit.0; min = range.0; max = range.1; moment = moment.0; place = place.0 } in
-    let size_whole : fields ≡ to_be_bytes w32 size ++ field.1 = subst (λ (y : ℕ). fields ≡ to_be_bytes w32 y ++ field.1) d.1 c.0.whole in
+    let size_whole : flags.1 ≡ to_be_bytes w32 size ++ field.1 = subst (λ (y : ℕ). flags.1 ≡ to_be_bytes w32 y ++ field.1) d.1 c.0.whole in
+    let flags_whole : magic ≡ to_be_bytes w32 2 ++ flags.1 = subst (λ (y : ℕ). magic ≡ to_be_bytes w32 y ++ flags.1) (flags-read 2 flags.0 plain plain_is) b.0.whole in
     let min_whole : commit.1 ≡ to_be_bytes w64 range.0 ++ min.1 = subst (λ (y : ℕ). commit.1 ≡ to_be_bytes w64 y ++ min.1) j.2 g.0.whole in
     let max_whole : min.1 ≡ to_be_bytes w64 range.1 ++ max.1 = subst (λ (y : ℕ). min.1 ≡ to_be_bytes w64 y ++ max.1) j.3 i.0.whole in
     let spelled : bytes ≡ front_fields size commit.0 range.0 range.1 moment.0 (place_fields place.0 ++ (to_be_bytes w64 0 ++ (to_be_bytes w32 0 ++ rest))) =
-    joined (to_be_bytes w32 0x4c54_5831) a.whole (joined (to_be_bytes w32 2) b.whole (joined (to_be_bytes w32 size) size_whole (joined (to_be_bytes w32 commit.0) f.0.whole (
+    joined (to_be_bytes w32 0x4c54_5831) a.whole (joined (to_be_bytes w32 2) flags_whole (joined (to_be_bytes w32 size) size_whole (joined (to_be_bytes w32 commit.0) f.0.whole (
     joined (to_be_bytes w64 range.0) min_whole (joined (to_be_bytes w64 range.1) max_whole (joined (to_be_bytes w64 moment.0) k.0.whole (joined (to_be_bytes w64 0) l.whole (
     joined (place_fields place.0) m.0.whole (joined (to_be_bytes w64 0) n.whole o.whole))))))))) in
     let is : IsHeader h = record {
@@ -130,11 +139,11 @@ header-read bytes x small e =
       place = m.1;
     } in
     let made : LtxHeader × List ℕ = (h, rest) in
-    subst (λ (y : LtxHeader × List ℕ). BeginsWith bytes (header_bytes y.0) y.1 × IsHeader y.0) (same_ok made x e) (record { whole = spelled ∙ sym (header_spelled h rest); small = o.small }, is))))))))))))))
+    subst (λ (y : LtxHeader × List ℕ). BeginsWith bytes (header_bytes y.0) y.1 × IsHeader y.0) (same_ok made x e) (record { whole = spelled ∙ sym (header_spelled h rest); small = o.small }, is)))))))))))))))
 
-pub header-again : (h : LtxHeader) (rest : List ℕ) → IsHeader h → header_at (header_bytes h ++ rest) ≡ Ok (h, rest)
-unfolding header_at
-header-again h rest is =
+fields-again : (h : LtxHeader) (rest : List ℕ) → IsHeader h → fields_at (header_bytes h ++ rest) ≡ Ok (h, rest)
+unfolding fields_at
+fields-again h rest is =
     let bounds = size_bounds h.size is.size in
     let at_rest = to_be_bytes w32 0 ++ rest in
     let at_free = to_be_bytes w64 0 ++ at_rest in
@@ -149,9 +158,10 @@ header-again h rest is =
     let in_order = is.in_order in
     let max_fits = is.max_fits in
     let spelled : header_bytes h ++ rest ≡ to_be_bytes w32 0x4c54_5831 ++ at_flags = header_spelled h rest in
-    ap header_at spelled ∙ rw (
-      behind-again numbers32 0x4c54_5831 at_flags (omega arith),
-      behind-again numbers32 2 at_size (omega arith),
+    ap fields_at spelled ∙ rw (
+      behind-again numbers32 0x4c54_5831 BadMagic at_flags (omega arith),
+      number-again numbers32 2 at_size (omega arith),
+      flags-again 2 refl,
       number-again numbers32 h.size at_commit bounds.1,
       size-again h.size is.size,
       commit-again h.size h.commit at_min bounds.0 is.some_page is.small,
@@ -159,8 +169,28 @@ header-again h rest is =
       number-again numbers64 h.max at_moment max_fits,
       range-again h.min h.max is.from_first in_order,
       number-again numbers64 h.moment at_log is.moment_fits,
-      behind-again numbers64 0 at_place (omega arith),
+      behind-again numbers64 0 BadReserved at_place (omega arith),
       place-again h.size h.place at_free is.place,
-      behind-again numbers64 0 at_rest (omega arith),
-      behind-again numbers32 0 rest (omega arith),
+      behind-again numbers64 0 BadReserved at_rest (omega arith),
+      behind-again numbers32 0 BadReserved rest (omega arith),
     ) refl
+
+-- ---- its length
+
+short_or : {A : Type 0} (test : Bool) (read : Result A LtxFault) (x : A) → cond test (Err Short) read ≡ Ok x → read ≡ Ok x
+short_or true read x e = absurd cc
+short_or false read x e = e
+
+pub header-length : (h : LtxHeader) → length (header_bytes h) ≡ 100
+unfolding header_bytes
+header-length h = let tail = fields_long h.place in omega (arith, tail)
+
+pub header-read : (bytes : List ℕ) (x : LtxHeader × List ℕ) → AreBytes bytes → header_at bytes ≡ Ok x → BeginsWith bytes (header_bytes x.0) x.1 × IsHeader x.0
+unfolding header_at
+header-read bytes x small e = fields-read bytes x small (short_or (ltb (length bytes) 100) (fields_at bytes) x e)
+
+pub header-again : (h : LtxHeader) (rest : List ℕ) → IsHeader h → header_at (header_bytes h ++ rest) ≡ Ok (h, rest)
+unfolding header_at
+header-again h rest is =
+    let long : ltb (length (header_bytes h ++ rest)) 100 ≡ false = le-ltb _ _ (omega (arith, length-append (header_bytes h) rest, header-length h)) in
+    rw long (fields-again h rest is)

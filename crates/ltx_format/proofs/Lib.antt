@@ -1,5 +1,8 @@
 pub mod Crc64Lemmas
 pub mod StepLemmas
+pub mod TestSteps
+pub mod HeaderFaults
+pub mod BlockFaults
 pub mod BlockLoop
 pub mod FieldLaws
 pub mod PlaceLaws
@@ -8,4 +11,5 @@ pub mod BlockLaws
 pub mod PageLemmas
 pub mod FileLaws
 pub mod Theorems
+pub mod FileFaults
 pub mod StandardFacts

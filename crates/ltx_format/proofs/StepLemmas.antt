@@ -18,9 +18,9 @@ bind_ok (Ok x) next y e = (x, refl, e)
 bind_ok (Err fault) next y e = absurd cc
 
 -- a test that passed
-pub where_true-ok : {A : Type 0} (test : Bool) (x y : A) → where_true test x ≡ Ok y → (test ≡ true) × (x ≡ y)
-where_true-ok true x y e = (refl, cc)
-where_true-ok false x y e = absurd cc
+pub where_true-ok : {A : Type 0} (test : Bool) (fault : LtxFault) (x y : A) → where_true test fault x ≡ Ok y → (test ≡ true) × (x ≡ y)
+where_true-ok true fault x y e = (refl, cc)
+where_true-ok false fault x y e = absurd cc
 
 -- the same, with what was read as a variable of the proof that goes on
 pub bind_then : {A B P : Type 0} (r : Result A LtxFault) (next : A → Result B LtxFault) (y : B) → (r >>= next) ≡ Ok y → ((x : A) → r ≡ Ok x → next x ≡ Ok y → P) → P

@@ -31,7 +31,7 @@ AreBytes-front front rest bytes e small =
     let taken : take (length front) bytes ≡ front = ap (take (length front)) e ∙ take_at front rest (length front) refl in
     subst AreBytes taken (AreBytes-take (length front) bytes small)
 
-file_is_read : (bytes : List ℕ) (h : LtxHeader) (c : Change) → AreBytes bytes → IsLtxFile bytes h c → file_at bytes ≡ Ok (h, entries c.pages)
+pub file_is_read : (bytes : List ℕ) (h : LtxHeader) (c : Change) → AreBytes bytes → IsLtxFile bytes h c → file_at bytes ≡ Ok (h, entries c.pages)
 file_is_read bytes h c small is =
     let blocks = entries c.pages in
     let before = before_sum h blocks in

@@ -1,3 +1,5 @@
 pub mod LtxFormat
+pub mod FirstFault
 pub mod Reading
 pub mod OneSpelling
+pub mod FaultlessFiles

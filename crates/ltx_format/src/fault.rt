@@ -6,12 +6,49 @@ ghost use Rattle.ltx_format.specs.declared.fault.DecodeFault.TheVariants.{Fault 
 use std::alloc::{AllocError, AllocFailed};
 use thiserror::Error;
 
-/// What is wrong with the bytes of a file.
+/// What is wrong with the bytes of a file. The parts of a file are tested in their order, and the first
+/// fault is told (`specs/FirstFault.antt` has the tests).
 #[derive(Clone, Copy, Debug, PartialEq, Eq, Error)]
 pub enum LtxFault {
-    /// The bytes are not a file of the format.
-    #[error("not an LTX file")]
-    NotFile,
+    /// The bytes end within the header, a block or the trailer.
+    #[error("short")]
+    Short,
+    /// The first four bytes aren't `LTX1`.
+    #[error("bad magic")]
+    BadMagic,
+    /// Bit 0 of the header's flags, or of a block's, is set.
+    #[error("compressed")]
+    Compressed,
+    /// The header's flags aren't 2, or a block's aren't 0.
+    #[error("bad flags")]
+    BadFlags,
+    /// The page size isn't a power of two from 512 to 65536.
+    #[error("bad page size")]
+    BadPageSize,
+    /// The database would have no page, or more than 2^30 bytes.
+    #[error("bad commit")]
+    BadCommit,
+    /// The first transaction is 0, or above the last one.
+    #[error("bad range")]
+    BadRange,
+    /// Another field of the header isn't as the format wants it, or the post-apply checksum isn't 0.
+    #[error("bad reserved field")]
+    BadReserved,
+    /// The block of this number isn't above the one before, or is above the commit. For number 0: the
+    /// blocks end, and a file from transaction 1 on lacks a page.
+    #[error("bad page order at {0}")]
+    BadOrder(u32),
+    /// The sum that the file keeps isn't the one found over the bytes before it.
+    #[error("bad checksum")]
+    BadSum {
+        /// The sum that stands in the trailer.
+        kept: u64,
+        /// The sum of the bytes, with the top bit set.
+        found: u64,
+    },
+    /// Bytes stand behind the trailer.
+    #[error("extra bytes")]
+    Extra,
 }
 
 /// Why a file could not be read.

@@ -1,7 +1,7 @@
 //! Numbers, read from the front of bytes.
 
 ghost use Rattle.std.specs.Int.{w16, w32, w64};
-ghost use Rattle.ltx_format.specs.Reading.{Reads, number_at, behind};
+ghost use Rattle.ltx_format.specs.Reading.{Reads, number_at, behind, flags_from};
 
 use crate::fault::LtxFault;
 
@@ -11,7 +11,7 @@ pub(crate) fn u16_at(bytes: &[u8]) -> Result<(u16, &[u8]), LtxFault>
     ensures { Reads (λ x. (x.0, x.1.now)) result (number_at w16 bytes.now) }
 {
     if bytes.len() < 2 {
-        return Err(LtxFault::NotFile);
+        return Err(LtxFault::Short);
     }
     let (front, rest) = bytes.split_at(2);
     Ok((u16::from_be_bytes([front[0], front[1]]), rest))
@@ -23,7 +23,7 @@ pub(crate) fn u32_at(bytes: &[u8]) -> Result<(u32, &[u8]), LtxFault>
     ensures { Reads (λ x. (x.0, x.1.now)) result (number_at w32 bytes.now) }
 {
     if bytes.len() < 4 {
-        return Err(LtxFault::NotFile);
+        return Err(LtxFault::Short);
     }
     let (front, rest) = bytes.split_at(4);
     let number = u32::from_be_bytes([front[0], front[1], front[2], front[3]]);
@@ -36,7 +36,7 @@ pub(crate) fn u64_at(bytes: &[u8]) -> Result<(u64, &[u8]), LtxFault>
     ensures { Reads (λ x. (x.0, x.1.now)) result (number_at w64 bytes.now) }
 {
     if bytes.len() < 8 {
-        return Err(LtxFault::NotFile);
+        return Err(LtxFault::Short);
     }
     let (front, rest) = bytes.split_at(8);
     let number = u64::from_be_bytes([
@@ -45,38 +45,40 @@ pub(crate) fn u64_at(bytes: &[u8]) -> Result<(u64, &[u8]), LtxFault>
     Ok((number, rest))
 }
 
-/// The bytes behind this 16-bit number, which must stand at the front.
+/// The bytes behind this 32-bit number, which must stand at the front, else this is the fault.
 #[tactic(auto, unfolding(crate::specs::Reading::behind))]
-pub(crate) fn behind_u16(number: u16, bytes: &[u8]) -> Result<&[u8], LtxFault>
-    ensures { Reads (λ x. x.now) result (behind w16 number bytes.now) }
-{
-    let (found, rest) = u16_at(bytes)?;
-    if found != number {
-        return Err(LtxFault::NotFile);
-    }
-    Ok(rest)
-}
-
-/// The bytes behind this 32-bit number, which must stand at the front.
-#[tactic(auto, unfolding(crate::specs::Reading::behind))]
-pub(crate) fn behind_u32(number: u32, bytes: &[u8]) -> Result<&[u8], LtxFault>
-    ensures { Reads (λ x. x.now) result (behind w32 number bytes.now) }
+pub(crate) fn behind_u32(number: u32, fault: LtxFault, bytes: &[u8]) -> Result<&[u8], LtxFault>
+    ensures { Reads (λ x. x.now) result (behind w32 number fault bytes.now) }
 {
     let (found, rest) = u32_at(bytes)?;
     if found != number {
-        return Err(LtxFault::NotFile);
+        return Err(fault);
     }
     Ok(rest)
 }
 
-/// The bytes behind this 64-bit number, which must stand at the front.
+/// The bytes behind this 64-bit number, which must stand at the front, else this is the fault.
 #[tactic(auto, unfolding(crate::specs::Reading::behind))]
-pub(crate) fn behind_u64(number: u64, bytes: &[u8]) -> Result<&[u8], LtxFault>
-    ensures { Reads (λ x. x.now) result (behind w64 number bytes.now) }
+pub(crate) fn behind_u64(number: u64, fault: LtxFault, bytes: &[u8]) -> Result<&[u8], LtxFault>
+    ensures { Reads (λ x. x.now) result (behind w64 number fault bytes.now) }
 {
     let (found, rest) = u64_at(bytes)?;
     if found != number {
-        return Err(LtxFault::NotFile);
+        return Err(fault);
     }
     Ok(rest)
+}
+
+/// Tests flags, which must be these.
+#[tactic(auto, unfolding(crate::specs::Reading::flags_from))]
+pub(crate) fn check_flags(flags: u32, found: u32) -> Result<(), LtxFault>
+    ensures { Reads (λ _. tt) result (flags_from flags found) }
+{
+    if found % 2 != 0 {
+        return Err(LtxFault::Compressed);
+    }
+    if found != flags {
+        return Err(LtxFault::BadFlags);
+    }
+    Ok(())
 }

@@ -1,13 +1,15 @@
 //! Reading the header.
 
-ghost use Rattle.ltx_format.specs.Reading.{Reads, size_from, commit_at, range_from, header_at};
+ghost use Rattle.ltx_format.specs.Reading.{Reads, size_from, commit_at, range_from, fields_at, header_at};
 
 use crate::fault::LtxFault;
-use crate::field::{behind_u32, behind_u64, u32_at, u64_at};
+use crate::field::{behind_u32, behind_u64, check_flags, u32_at, u64_at};
 use crate::header::LtxHeader;
 use crate::place::place_of;
 use ls_base::{PageSize, Txid};
 
+/// The length of a header in bytes.
+const HEADER_BYTES: usize = 100;
 /// The first four bytes of each file, `LTX1`, as a number.
 const MAGIC: u32 = 0x4c54_5831;
 /// The flags of a file that has no rolling checksums.
@@ -20,8 +22,20 @@ const DATABASE_BYTES: u64 = 1 << 30;
 pub(crate) fn header_of(bytes: &[u8]) -> Result<(LtxHeader, &[u8]), LtxFault>
     ensures { Reads (λ x. (x.0, x.1.now)) result (header_at bytes.now) }
 {
-    let rest = behind_u32(MAGIC, bytes)?;
-    let rest = behind_u32(NO_ROLLING_CHECKSUMS, rest)?;
+    if bytes.len() < HEADER_BYTES {
+        return Err(LtxFault::Short);
+    }
+    fields_of(bytes)
+}
+
+/// The header by its fields, and the bytes behind it.
+#[tactic(auto, unfolding(crate::specs::Reading::fields_at))]
+fn fields_of(bytes: &[u8]) -> Result<(LtxHeader, &[u8]), LtxFault>
+    ensures { Reads (λ x. (x.0, x.1.now)) result (fields_at bytes.now) }
+{
+    let rest = behind_u32(MAGIC, LtxFault::BadMagic, bytes)?;
+    let (flags, rest) = u32_at(rest)?;
+    check_flags(NO_ROLLING_CHECKSUMS, flags)?;
     let (size, rest) = u32_at(rest)?;
     let size = size_of(size)?;
     let (commit, rest) = commit_of(size, rest)?;
@@ -29,10 +43,10 @@ pub(crate) fn header_of(bytes: &[u8]) -> Result<(LtxHeader, &[u8]), LtxFault>
     let (max, rest) = u64_at(rest)?;
     let (min, max) = range_of(min, max)?;
     let (moment, rest) = u64_at(rest)?;
-    let rest = behind_u64(0, rest)?;
+    let rest = behind_u64(0, LtxFault::BadReserved, rest)?;
     let (place, rest) = place_of(size, rest)?;
-    let rest = behind_u64(0, rest)?;
-    let rest = behind_u32(0, rest)?;
+    let rest = behind_u64(0, LtxFault::BadReserved, rest)?;
+    let rest = behind_u32(0, LtxFault::BadReserved, rest)?;
     let header = LtxHeader {
         size,
         commit,
@@ -48,7 +62,7 @@ pub(crate) fn header_of(bytes: &[u8]) -> Result<(LtxHeader, &[u8]), LtxFault>
 fn size_of(number: u32) -> Result<PageSize, LtxFault>
     ensures { Reads (λ x. x) result (size_from number) }
 {
-    PageSize::from_u32(number).ok_or(LtxFault::NotFile)
+    PageSize::from_u32(number).ok_or(LtxFault::BadPageSize)
 }
 
 /// How many pages the database has afterwards.
@@ -58,7 +72,7 @@ fn commit_of(size: PageSize, bytes: &[u8]) -> Result<(u32, &[u8]), LtxFault>
 {
     let (commit, rest) = u32_at(bytes)?;
     if commit == 0 || u64::from(commit) * u64::from(size.get()) > DATABASE_BYTES {
-        return Err(LtxFault::NotFile);
+        return Err(LtxFault::BadCommit);
     }
     Ok((commit, rest))
 }
@@ -70,6 +84,6 @@ fn range_of(min: u64, max: u64) -> Result<(Txid, Txid), LtxFault>
 {
     match (Txid::new(min), Txid::new(max)) {
         (Some(first), Some(last)) if min <= max => Ok((first, last)),
-        _ => Err(LtxFault::NotFile),
+        _ => Err(LtxFault::BadRange),
     }
 }

@@ -26,4 +26,4 @@ pub use fault::{DecodeFault, LtxFault};
 pub use file::LtxFile;
 pub use header::LtxHeader;
 pub use reading::decode;
-pub use spelling::one_spelling;
+pub use spelling::{faultless_files, one_spelling};

@@ -1,7 +1,7 @@
 //! The fields of the place.
 
 ghost use Rattle.std.specs.Prelude.{◌≡◌};
-ghost use Rattle.ltx_format.specs.Reading as spec;
+ghost use Rattle.ltx_format.specs.FirstFault as spec;
 ghost use Rattle.ltx_format.specs.Reading.{Reads, wal_at, rest_at, place_at};
 
 use crate::fault::LtxFault;
@@ -29,7 +29,7 @@ pub(crate) fn place_of(size: PageSize, bytes: &[u8]) -> Result<(Place, &[u8]), L
     if offset == 0 {
         return rest_of(rest);
     }
-    Err(LtxFault::NotFile)
+    Err(LtxFault::BadReserved)
 }
 
 /// A place in the log, from the log's length on.
@@ -40,11 +40,11 @@ fn wal_of(size: PageSize, bytes: &[u8]) -> Result<(Place, &[u8]), LtxFault>
     let (log, rest) = u64_at(bytes)?;
     let (salt1, rest) = u32_at(rest)?;
     let (salt2, rest) = u32_at(rest)?;
-    let rest = behind_u64(0, rest)?;
+    let rest = behind_u64(0, LtxFault::BadReserved, rest)?;
     let (s0, rest) = u32_at(rest)?;
     let (s1, rest) = u32_at(rest)?;
     if !are_frames(size, log) {
-        return Err(LtxFault::NotFile);
+        return Err(LtxFault::BadReserved);
     }
     let end = FIRST_FRAME + log;
     let place = Place::Wal {
@@ -70,12 +70,12 @@ fn are_frames(size: PageSize, bytes: u64) -> bool
 fn rest_of(bytes: &[u8]) -> Result<(Place, &[u8]), LtxFault>
     ensures { Reads (λ x. (x.0, x.1.now)) result (rest_at bytes.now) }
 {
-    let rest = behind_u64(0, bytes)?;
-    let rest = behind_u64(0, rest)?;
-    let rest = behind_u64(0, rest)?;
+    let rest = behind_u64(0, LtxFault::BadReserved, bytes)?;
+    let rest = behind_u64(0, LtxFault::BadReserved, rest)?;
+    let rest = behind_u64(0, LtxFault::BadReserved, rest)?;
     let (sum, rest) = u64_at(rest)?;
     if sum < TOP_BIT {
-        return Err(LtxFault::NotFile);
+        return Err(LtxFault::BadReserved);
     }
     Ok((Place::Rest { sum }, rest))
 }

@@ -13,8 +13,8 @@ use crate::heading::header_of;
 use crate::trailer::end_of;
 use std::alloc::Global;
 
-/// The file that the bytes are. `NotFile` exactly where they are no file of the format, and `Memory` for
-/// want of memory for its pages.
+/// The file that the bytes are. Where they are no file of the format, `Fault` with their first fault, and
+/// `Memory` for want of memory for the pages.
 pub fn decode(alloc: Global, bytes: &[u8]) -> Result<LtxFile, DecodeFault>
     // What is read is spelled so.
     ensures found { IfOk result (λ file. IsLtxFile bytes.now file.header (change_of file)) }
@@ -35,7 +35,7 @@ fn file_of(alloc: Global, bytes: &[u8]) -> Result<LtxFile, DecodeFault>
     };
     let (pages, count, rest) = pages_of(alloc, &header, rest)?;
     if header.min.number() == 1 && count != header.commit {
-        return Err(DecodeFault::Fault(LtxFault::NotFile));
+        return Err(DecodeFault::Fault(LtxFault::BadOrder(0)));
     }
     end_of(bytes, rest)?;
     Ok(LtxFile { header, pages })

@@ -1,4 +1,4 @@
-use crate::{DecodeFault, LtxFault, LtxHeader, decode};
+use crate::{DecodeFault, LtxHeader, decode};
 use ls_base::{PageSize, Place, Txid};
 use ls_sums::Crc64;
 use std::alloc::{AllocError, Global};
@@ -54,7 +54,7 @@ fn summed(alloc: Global, bytes: &[u8]) -> Result<Vec<u8>, AllocError> {
 fn is_refused(alloc: Global, bytes: &[u8]) -> bool {
     matches!(
         decode(alloc, bytes),
-        Err(DecodeFault::Fault(LtxFault::NotFile))
+        Err(DecodeFault::Fault(_))
     )
 }
 

@@ -2,7 +2,7 @@ use Rattle.std.proofs.Common.{◌≡◌, ◌++◌, ◌∷◌, [], length-append,
 use Rattle.std.specs.FinMap as map
 use Rattle.std.proofs.lemmas.Bool.{ne_eqb}
 use Rattle.std.proofs.lemmas.Result.{err_from_is_err_and}
-use Rattle.ltx_format.proofs.BlockLoop.{begins, entries-empty, goes_on, ends, no_number, no_page, is_done, entries-insert_last, up_to_more, page_rises}
+use Rattle.ltx_format.proofs.BlockLoop.{begins, entries-empty, goes_on, ends, no_number, no_page, is_done, no_end, entries-insert_last, up_to_more, page_rises}
 use Rattle.ltx_format.proofs.block.pages_of.Goals as goal
 
 pub loop-count-init : goal.loop-count-init
@@ -39,5 +39,12 @@ loop-count-preserved c =
       up_to = up_to_more number page c.loop-count.last (map.entries before) c.loop-count.invariant.up_to rises;
     })
 
+pub returns-in_err-rest-clause-value : goal.returns-in_err-rest-clause-value
+returns-in_err-rest-clause-value c =
+    let p = err_from_is_err_and c.from_residual-in_err-rest.result c.from_residual-in_err-rest.ensures.1 in
+    rw (p.1, p.2) (no_end (map.entries c.loop-count.pages) _ _ c.loop-count.last c.loop-count.count _ _ c.loop-count-test.false c.loop-count.invariant.so_far c.in_err-rest.field-0.0 c.in_err-rest.ensures)
+
 pub returns-clause-value : goal.returns-clause-value
-returns-clause-value c = is_done (map.entries c.loop-count.pages) c.args.header.now.size c.args.header.now.commit c.loop-count.last c.loop-count.count c.loop-count.rest.now _ c.loop-count-test.false c.loop-count.invariant.so_far
+returns-clause-value c =
+    is_done (map.entries c.loop-count.pages) c.args.header.now.size c.args.header.now.commit c.loop-count.last c.loop-count.count c.loop-count.rest.now _ c.loop-count-test.false c.loop-count.invariant.so_far
+    c.in_ok-rest.rest.now c.in_ok-rest.ensures

@@ -1,0 +1,112 @@
+-- The first fault of bytes: the parts of a file are tested in this order, and the first test that fails
+-- tells.
+use Rattle.std.specs.Prelude.{ℕ, zero, suc, ◌+◌, ◌-◌, ◌*◌, ◌%◌, ◌^◌, Bool, List, [], ◌∷◌, length, take, drop, Option, Some, None, nat_lt, nat_le, ◌==◌, ◌&&◌, ◌||◌, not, if◌then◌else◌}
+use Rattle.std.specs.Option.{option_or}
+use Rattle.std.specs.Int.{Width, w16, w32, w64, byte_len, from_be_bytes}
+use Rattle.ls_base.specs.PageSize.{is_page_size}
+use Rattle.ltx_format.specs.declared.fault.LtxFault.{LtxFault}
+use Rattle.ltx_format.specs.declared.fault.LtxFault.TheVariants.{Short, BadMagic, Compressed, BadFlags, BadPageSize, BadCommit, BadRange, BadReserved, BadOrder, BadSum, Extra}
+use Rattle.ltx_format.specs.LtxFormat.{file_sum}
+
+-- tests, each with the fault of bytes that fail it
+abbrev pub Tests : Type 0
+Tests = List (Bool × LtxFault)
+
+-- the fault of the first test that fails
+abbrev pub first_failed : Tests → Option LtxFault
+first_failed [] = None
+first_failed ((passes, fault) ∷ tests) = if passes then first_failed tests else Some fault
+
+-- the number of this width at an offset
+abbrev pub number : Width → ℕ → List ℕ → ℕ
+number w at bytes = from_be_bytes w (take (byte_len w) (drop at bytes))
+
+-- ---- the header
+
+abbrev pub page_size : List ℕ → ℕ
+page_size bytes = number w32 8 bytes
+
+abbrev pub commit : List ℕ → ℕ
+commit bytes = number w32 12 bytes
+
+abbrev pub min_txid : List ℕ → ℕ
+min_txid bytes = number w64 16 bytes
+
+-- whole frames of a log, at least one, that end within its first 2^32 bytes
+abbrev pub are_frames : ℕ → ℕ → Bool
+are_frames size bytes = bytes % (24 + size) == 0 && nat_le (24 + size) bytes && nat_le (32 + bytes) (2 ^ 32)
+
+-- a place in the log: its offset 32, and frames
+abbrev pub is_in_log : List ℕ → Bool
+is_in_log bytes = number w64 48 bytes == 32 && are_frames (page_size bytes) (number w64 56 bytes)
+
+-- a place at rest: no offset, length and salts, and a sum with its top bit set
+abbrev pub is_at_rest : List ℕ → Bool
+is_at_rest bytes =
+    number w64 48 bytes == 0 && number w64 56 bytes == 0 && number w64 64 bytes == 0 && nat_le (2 ^ 63) (number w64 80 bytes)
+
+-- The last five are the pre-apply checksum, the place, the node, and the 12 bytes that are kept free.
+abbrev pub header_tests : List ℕ → Tests
+header_tests bytes =
+    (nat_le 100 (length bytes), Short)
+    ∷ (number w32 0 bytes == 0x4c54_5831, BadMagic)
+    ∷ (number w32 4 bytes % 2 == 0, Compressed)
+    ∷ (number w32 4 bytes == 2, BadFlags)
+    ∷ (is_page_size (page_size bytes), BadPageSize)
+    ∷ (not (commit bytes == 0) && nat_le (commit bytes * page_size bytes) (2 ^ 30), BadCommit)
+    ∷ (not (min_txid bytes == 0) && nat_le (min_txid bytes) (number w64 24 bytes), BadRange)
+    ∷ (number w64 40 bytes == 0, BadReserved)
+    ∷ (is_in_log bytes || is_at_rest bytes, BadReserved)
+    ∷ (number w64 72 bytes == 0, BadReserved)
+    ∷ (number w64 88 bytes == 0, BadReserved)
+    ∷ (number w32 96 bytes == 0, BadReserved)
+    ∷ []
+
+-- the first fault of the first 100 bytes
+unfoldable pub header_fault : List ℕ → Option LtxFault
+header_fault bytes = first_failed (header_tests bytes)
+
+-- ---- the blocks, by the offset of each
+
+-- the number and the flags of the block
+abbrev pub block_tests : List ℕ → ℕ → Tests
+block_tests bytes at =
+    (nat_le (at + 6) (length bytes), Short)
+    ∷ (number w16 (at + 4) bytes % 2 == 0, Compressed)
+    ∷ (number w16 (at + 4) bytes == 0, BadFlags)
+    ∷ []
+
+-- The block holds a page: its number is above the last one and at most the commit, and the page is there.
+abbrev pub page_tests : List ℕ → ℕ → ℕ → Tests
+page_tests bytes last at =
+    (nat_lt last (number w32 at bytes) && nat_le (number w32 at bytes) (commit bytes), BadOrder (number w32 at bytes))
+    ∷ (nat_le (at + 6 + page_size bytes) (length bytes), Short)
+    ∷ []
+
+-- The block ends the blocks, and `count` pages stand before it: where the file begins at transaction 1 they
+-- are all pages. Behind it stand the post-apply checksum 0 and the sum of all bytes before it, and nothing
+-- else.
+abbrev pub end_tests : List ℕ → ℕ → ℕ → Tests
+end_tests bytes count at =
+    let kept = number w64 (at + 14) bytes in
+    let found = file_sum (take (at + 14) bytes) in
+    (not (min_txid bytes == 1) || count == commit bytes, BadOrder 0)
+    ∷ (nat_le (at + 22) (length bytes), Short)
+    ∷ (number w64 (at + 6) bytes == 0, BadReserved)
+    ∷ (kept == found, BadSum kept found)
+    ∷ (length bytes == at + 22, Extra)
+    ∷ []
+
+-- The first fault from a block on, where `count` blocks stand before it and `last` is the number of the one
+-- before. Since numbers rise up to the commit, at most `left` blocks can come.
+unfoldable pub fault_from : ℕ → List ℕ → ℕ → ℕ → ℕ → Option LtxFault
+fault_from zero bytes count last at = None
+fault_from (suc left) bytes count last at =
+    option_or (first_failed (block_tests bytes at)) (
+      if number w32 at bytes == 0 then first_failed (end_tests bytes count at)
+      else option_or (first_failed (page_tests bytes last at)) (fault_from left bytes (suc count) (number w32 at bytes) (at + 6 + page_size bytes))
+    )
+
+-- the first fault of the whole
+unfoldable pub first_fault : List ℕ → Option LtxFault
+first_fault bytes = option_or (header_fault bytes) (fault_from (suc (commit bytes)) bytes 0 0 100)
