@@ -4,3 +4,6 @@ pub mod Chain
 pub mod Listing
 pub mod StoreError
 pub mod Putting
+pub mod FileOf
+pub mod Applying
+pub mod Faithful

@@ -1,0 +1,3 @@
+pub mod StagingLemmas
+pub mod StopLemmas
+pub mod OutputLemmas

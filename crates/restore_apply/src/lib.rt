@@ -1,0 +1,15 @@
+//! Restoring a database from the files of a chain.
+//!
+//! To the layer above it promises: the output has its name whole or not at all, whatever a crash takes; what is
+//! written is what the plan's files make, applied one after another to nothing; and each fault tells its cause.
+//!
+//! Stands on `ls_base`, `crash_disk`, `ltx_format` and `replica_store`.
+#![tactic(auto)]
+
+mod gathered;
+mod output;
+mod restore;
+mod restored;
+
+pub use restore::restore;
+pub use restored::{RestoreFault, Restored};
