@@ -1,4 +1,5 @@
 mod StandardFacts
+pub mod HeaderLemmas
 pub mod NameLemmas
 pub mod ReadingLemmas
 pub mod ImageLemmas

@@ -1,7 +1,7 @@
 -- What the list of a replica's files has, by the texts that it was read from.
 use Rattle.std.proofs.Common.{◌≡◌, ◌≢◌, ℕ, suc, ◌+◌, take, List, [], ◌∷◌, ◌++◌, map, Bool, true, false, ◌||◌, ◌&&◌, T, Ordering, Less, Equal, Greater, is_eq, Option, Some, None, refl, sym, ap, subst, ◌∙◌, inl, inr, ⊎_elim, arith}
 use Rattle.std.specs.Prelude.{◌⊎◌, ◌↔◌, IsSome, is_some, slice_get}
-use Rattle.std.specs.List.{Contains, IsDistinct, AllByRecursion, list_any}
+use Rattle.std.specs.List.{Contains, IsDistinct, All, AllByRecursion, list_any}
 use Rattle.std.specs.List.Sorted.{IsPermutation}
 use Rattle.std.specs.FinMap.{FinMap, get, keys, entries, entries_sorted, contains_key, contains_key-keys}
 use Rattle.std.specs.FinMap.Entries.{is_sorted, below_all}
@@ -10,7 +10,8 @@ use Rattle.std.proofs.lemmas.Option.{slice_get_within, get_or_from_slice_get}
 use Rattle.std.proofs.Math.Seq.{take-suc}
 use Rattle.std.specs.Ordering.{nat_cmp, is_lt, eq_by_cmp}
 use Rattle.std.specs.Cmp.Lexicographic.{slice_cmp, nat_list_cmp_total}
-use Rattle.std.proofs.lemmas.List.Sorted.{IsPermutation-map, list_any-IsPermutation}
+use Rattle.std.proofs.lemmas.List.Elements.{All-nil, All-cons}
+use Rattle.std.proofs.lemmas.List.Sorted.{IsPermutation-map, list_any-IsPermutation, All-permutation}
 use Rattle.std.proofs.lemmas.Map.Keys.{IsDistinct-IsPermutation, IsDistinct-cons, IsDistinct-head, IsDistinct-tail}
 use Rattle.std.proofs.lemmas.Map.Views.{Contains-from_any, list_any-from_Contains}
 use Rattle.crash_disk.specs.declared.event.Event.{Event}
@@ -20,10 +21,10 @@ use Rattle.crash_disk.specs.NumberLaws.{by_names}
 use Rattle.replica_store.specs.declared.file_name.FileName.{FileName}
 use Rattle.replica_store.specs.NameText.{IsName, file_path}
 use Rattle.replica_store.specs.Chain.{IsListOrdered}
-use Rattle.replica_store.specs.Listing.{path_of, paths_of, IsFilePath, AreReadOf, AreListed}
+use Rattle.replica_store.specs.Listing.{path_of, paths_of, IsValid, IsFilePath, AreReadOf, AreListed}
 
 -- one text more
-pub read_more : (texts : List (List ℕ)) (names : List FileName) (text : List ℕ) (name : FileName) → AreReadOf texts names → text ≡ path_of name → IsFilePath text → AreReadOf (texts ++ text ∷ []) (names ++ name ∷ [])
+pub read_more : (texts : List (List ℕ)) (names : List FileName) (text : List ℕ) (name : FileName) → AreReadOf texts names → text ≡ path_of name → IsValid name → AreReadOf (texts ++ text ∷ []) (names ++ name ∷ [])
 read_more [] names text name read is path = inl (name, [], ap (λ ns. ns ++ name ∷ []) read, is, path, refl)
 read_more (first ∷ texts) names text name (inl (n, rest, names-are, e, valid, tail)) is path =
     inl (n, rest ++ name ∷ [], ap (λ ns. ns ++ name ∷ []) names-are, e, valid, read_more texts rest text name tail is path)
@@ -54,7 +55,7 @@ same_name q name e = by_names q name (λ same. same) (λ other. let no : false �
 read_paths : (texts : List (List ℕ)) (names : List FileName) (q : List ℕ) → AreReadOf texts names → list_any (is_name q) (paths_of names) ≡ true → IsFilePath q
 read_paths [] names q read any = let no : false ≡ true = sym (ap (λ ns. list_any (is_name q) (paths_of ns)) read) ∙ any in absurd cc
 read_paths (text ∷ texts) names q (inl (n, rest, names-are, is, valid, tail)) any =
-    ⊎_elim (λ here. subst IsFilePath (is ∙ sym (same_name q (path_of n) here)) valid) (λ there. read_paths texts rest q tail there)
+    ⊎_elim (λ here. record { level = n.level; min = n.min; max = n.max; valid = valid; is = same_name q (path_of n) here }) (λ there. read_paths texts rest q tail there)
     (or_true (is_name q (path_of n)) (list_any (is_name q) (paths_of rest)) (sym (ap (λ ns. list_any (is_name q) (paths_of ns)) names-are) ∙ any))
 read_paths (text ∷ texts) names q (inr (none, tail)) any = read_paths texts names q tail any
 
@@ -71,6 +72,11 @@ read_distinct [] names read d = subst (λ ns. IsDistinct is_name (paths_of ns)) 
 read_distinct (text ∷ texts) names (inl (n, rest, names-are, is, valid, tail)) d =
     subst (λ ns. IsDistinct is_name (paths_of ns)) (sym names-are) (subst (λ t. AllByRecursion (λ y. is_name t y ≡ false) (paths_of rest)) is (read_apart text texts rest tail d.0), read_distinct texts rest tail d.1)
 read_distinct (text ∷ texts) names (inr (none, tail)) d = read_distinct texts names tail d.1
+
+read_valid : (texts : List (List ℕ)) (names : List FileName) → AreReadOf texts names → All IsValid names
+read_valid [] names read = subst (All IsValid) (sym read) (All-nil IsValid)
+read_valid (text ∷ texts) names (inl (n, rest, names-are, is, valid, tail)) = subst (All IsValid) (sym names-are) (All-cons IsValid n rest valid (read_valid texts rest tail))
+read_valid (text ∷ texts) names (inr (none, tail)) = read_valid texts names tail
 
 -- ---- the names of a store
 
@@ -112,6 +118,7 @@ are_listed events texts read names are reads moved ordered =
     let any : (q : List ℕ) → list_any (is_name q) (paths_of read) ≡ list_any (is_name q) (paths_of names) = λ q. list_any-IsPermutation (is_name q) (paths_of read) (paths_of names) paths in
     record {
       ordered = ordered;
+      valid = All-permutation IsValid read names moved (read_valid texts read reads);
       once = IsDistinct-IsPermutation is_name flips (paths_of read) (paths_of names) paths (read_distinct texts read reads (texts_distinct events texts are));
       each = λ q. (
         λ has.
@@ -136,7 +143,7 @@ pub next_read : (texts : List (List ℕ)) (at : ℕ) (text : List ℕ) (names af
 next_read texts at text names after name here read is valid after-is =
     subst (AreReadOf (take (at + 1) texts)) (sym after-is)
     (subst (λ ts. AreReadOf ts (names ++ name ∷ [])) (sym (take_next texts at text here))
-    (read_more (take at texts) names text name read is (record { level = name.level; min = name.min; max = name.max; valid = valid; is = is })))
+    (read_more (take at texts) names text name read is valid))
 
 pub next_past : (texts : List (List ℕ)) (at : ℕ) (text : List ℕ) (names after : List FileName) → slice_get texts at ≡ Some text → AreReadOf (take at texts) names
     → ((level min max : ℕ) → IsName level min max → text ≢ file_path level min max) → after ≡ names → AreReadOf (take (at + 1) texts) after

@@ -7,3 +7,4 @@ pub mod Putting
 pub mod FileOf
 pub mod Applying
 pub mod Faithful
+pub mod Dating

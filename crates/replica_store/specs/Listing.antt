@@ -1,6 +1,6 @@
 -- What a list of a replica's files has.
 use Rattle.std.specs.Prelude.{◌≡◌, ◌≢◌, ◌↔◌, ℕ, List, [], ◌∷◌, map, unwrap_or, ◌⊎◌}
-use Rattle.std.specs.List.{Contains, IsDistinct}
+use Rattle.std.specs.List.{Contains, IsDistinct, All}
 use Rattle.crash_disk.specs.declared.event.Event.{Event}
 use Rattle.crash_disk.specs.Files.{IsThere, file_at}
 use Rattle.crash_disk.specs.FileLaws.{is_name}
@@ -23,9 +23,14 @@ pub record IsFilePath (text : List ℕ) : Type 0 where
   pub valid : IsName level min max
   pub is : text ≡ file_path level min max
 
+-- the parts of the name are in their ranges
+abbrev pub IsValid : FileName → Type 0
+IsValid name = IsName name.level name.min name.max
+
 -- the names are those of the files that are there under the path of a name, each once, in list order
 pub record AreListed (events : List Event) (names : List FileName) : Type 0 where
   pub ordered : IsListOrdered names
+  pub valid : All IsValid names
   pub once : IsDistinct is_name (paths_of names)
   pub each : (text : List ℕ) → Contains (paths_of names) text ↔ (IsFilePath text × IsThere events text)
 
@@ -33,7 +38,7 @@ pub record AreListed (events : List Event) (names : List FileName) : Type 0 wher
 abbrev pub AreReadOf : List (List ℕ) → List FileName → Type 0
 AreReadOf [] names = names ≡ []
 AreReadOf (text ∷ texts) names =
-    ((name : FileName) × (rest : List FileName) × (names ≡ name ∷ rest) × (text ≡ path_of name) × IsFilePath text × AreReadOf texts rest) ⊎ ((IsFilePath text → ⊥) × AreReadOf texts names)
+    ((name : FileName) × (rest : List FileName) × (names ≡ name ∷ rest) × (text ≡ path_of name) × IsValid name × AreReadOf texts rest) ⊎ ((IsFilePath text → ⊥) × AreReadOf texts names)
 
 -- the bytes under a path; an absent file has none
 abbrev pub bytes_under : List Event → List ℕ → List ℕ

@@ -1,11 +1,19 @@
-//! A list of names of files with their moments.
+//! Names of files with their moments.
 
 ghost use Rattle.std.specs.Prelude.{◌≡◌, [], ◌∷◌, ◌++◌, OnOk, OnErr};
 
-use crate::dated::Dated;
+use crate::file_name::FileName;
 use ls_base::Memory;
 use std::alloc::Global;
 use std::marker::Model;
+
+/// The name of a transaction file, and the moment that its header tells, in milliseconds since
+/// 1970-01-01T00:00:00Z.
+#[derive(Clone, Copy, Debug, PartialEq, Eq)]
+pub struct Dated {
+    pub name: FileName,
+    pub moment: u64,
+}
 
 /// A list of names with their moments that grows at its end.
 #[derive(Debug, Drop)]
@@ -15,7 +23,7 @@ pub struct DatedNames {
 
 impl Model for DatedNames {
     ghost use Rattle.std.specs.Prelude.{List};
-    ghost use Rattle.replica_store.specs.declared.dated.Dated.{Dated};
+    ghost use Rattle.replica_store.specs.declared.dated_names.Dated.{Dated};
 
     ghost Value = { List Dated };
 

@@ -8,13 +8,13 @@
 //! Stands on `ls_base`, `crash_disk` and `ltx_format`.
 #![tactic(auto)]
 
-mod dated;
 mod dated_names;
 mod draft;
 mod error;
 mod fetching;
 mod file_name;
 mod file_names;
+mod heading;
 mod listing;
 mod name_text;
 mod put;
@@ -23,12 +23,12 @@ mod settling;
 #[cfg(test)]
 mod tests;
 
-pub use dated::Dated;
-pub use dated_names::DatedNames;
+pub use dated_names::{Dated, DatedNames};
 pub use error::{Damage, StoreError};
 pub use fetching::get;
 pub use file_name::FileName;
 pub use file_names::FileNames;
+pub use heading::{dated, header_of};
 pub use listing::list;
 pub use name_text::{NameText, write_name};
 pub use put::Put;

@@ -1,0 +1,19 @@
+use Rattle.std.proofs.Common.{◌≡◌, List, subst, sym, ◌∙◌, arith}
+use Rattle.replica_store.specs.Dating.{ExplainsDated}
+use Rattle.replica_store.proofs.HeaderLemmas.{dated_more, dated_error, error_goes_on}
+use Rattle.replica_store.proofs.heading.dated.Goals as goal
+
+pub returns-in_err-header-clause-explained : goal.returns-in_err-header-clause-explained
+returns-in_err-header-clause-explained g c =
+    error_goes_on c.from_residual.result c.in_err-header.field-0.0 (ExplainsDated (g.S.Disk.told c.args.store.now) c.args.names.now) c.from_residual.ensures.1
+    (dated_error (g.S.Disk.told c.args.store.now) (g.S.Disk.told c.loop-name.store) c.args.names.now c.loop-name.name-index c.loop-name.list c.name-item.result c.in_err-header.field-0.0 c.loop-name-test.true c.name-item.is c.loop-name.invariant.unchanged c.loop-name.invariant.dated c.in_err-header.ensures.explained)
+
+pub loop-name-preserved : goal.loop-name-preserved
+loop-name-preserved g c = record {
+  unchanged = c.in_ok-header.ensures.unchanged ∙ c.loop-name.invariant.unchanged;
+  same_folder = c.in_ok-header.ensures.same_folder ∙ c.loop-name.invariant.same_folder;
+  later = omega (arith, c.in_ok-header.ensures.cause.later, c.loop-name.invariant.later);
+  dated = λ events told.
+      let now = c.loop-name.invariant.unchanged ∙ told in
+      dated_more events c.args.names.now c.loop-name.name-index c.loop-name.list c.push.new.self c.name-item.result c.in_ok-header.header c.loop-name-test.true c.name-item.is (c.loop-name.invariant.dated events told) (c.in_ok-header.ensures.value events now) c.in_ok-push.ensures.ok;
+}

@@ -1,0 +1,60 @@
+//! The headers of a replica's files.
+
+ghost use Rattle.std.specs.Prelude.{◌≡◌, IfOk, IfErr};
+ghost use Rattle.crash_disk.specs.Told.{IfTold};
+ghost use Rattle.replica_store.specs.Dating.{IsHeaderUnder, AreDated, ExplainsHeader, ExplainsDated};
+ghost use Rattle.replica_store.specs.StoreError.{StoreHasCause};
+
+use crate::dated_names::{Dated, DatedNames};
+use crate::error::{Damage, StoreError};
+use crate::file_name::FileName;
+use crate::name_text::write_name;
+use crash_disk::Disk;
+use ltx_format::{LtxHeader, read_ltx_header};
+use std::alloc::Global;
+
+/// The header of the file of this name, from its first 100 bytes; an absent file has no bytes. `Damaged` with the
+/// header's first fault, or with `NameDiffers` exactly where its transactions aren't those of the name; `Store`
+/// for a fault of the disk. Takes no memory, and never answers `Memory`.
+pub fn header_of<S: Disk>(store: &mut S, name: &FileName) -> Result<LtxHeader, StoreError>
+    ensures value { IfOk result (λ header. IfTold (S.told store.old) (λ events. IsHeaderUnder events name.now header)) }
+    ensures explained { IfErr result (ExplainsHeader (S.told store.old) name.now) }
+    ensures unchanged { S.told store.new ≡ S.told store.old }
+    ensures same_folder { S.folder store.new ≡ S.folder store.old }
+    ensures cause { StoreHasCause (S.fault_count store.old) (S.fault_count store.new) result }
+{
+    let mut front = [0u8; 100];
+    let count = store.read_at(write_name(name).as_str(), 0, &mut front)?;
+    let header = match read_ltx_header(&front[..count]) {
+        Ok(header) => header,
+        Err(fault) => return Err(StoreError::Damaged(*name, Damage::File(fault))),
+    };
+    if header.min != name.min || header.max != name.max {
+        return Err(StoreError::Damaged(*name, Damage::NameDiffers));
+    }
+    Ok(header)
+}
+
+/// The names with the moments that the headers of their files tell. Reads the headers in the order of the
+/// names and answers the first fault as `header_of` does, or `Memory` for want of it.
+pub fn dated<S: Disk>(
+    alloc: Global,
+    store: &mut S,
+    names: &[FileName],
+) -> Result<DatedNames, StoreError>
+    ensures value { IfOk result (λ dated. IfTold (S.told store.old) (λ events. AreDated events names.now dated)) }
+    ensures explained { IfErr result (ExplainsDated (S.told store.old) names.now) }
+    ensures unchanged { S.told store.new ≡ S.told store.old }
+    ensures same_folder { S.folder store.new ≡ S.folder store.old }
+    ensures cause { StoreHasCause (S.fault_count store.old) (S.fault_count store.new) result }
+{
+    let mut list = DatedNames::new(alloc);
+    for name in names {
+        let header = header_of(store, name)?;
+        list.push(Dated {
+            name: *name,
+            moment: header.moment,
+        })?;
+    }
+    Ok(list)
+}
