@@ -359,7 +359,7 @@ pub const ROWS: [Row; 32] = [
         at_none: None,
         at_all: None,
         at_names: None,
-        at_others: &[None, Some(""), Some("new")],
+        at_others: &[None, Some("new")],
     },
     Row {
         steps: &PUT_WHOLE,

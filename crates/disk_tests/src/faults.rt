@@ -88,16 +88,20 @@ fn passes(disk: &mut MemDisk, alloc: Global, step: &Step) -> Result<bool, Fail> 
     })
 }
 
+/// Whether these stand under "a" and "b".
+fn has(disk: &mut MemDisk, a: Option<&str>, b: Option<&str>) -> Result<bool, Fail> {
+    Ok(reads(disk, "a", a)? && reads(disk, "b", b)?)
+}
+
 fn check(rt: &impl Abort, alloc: Global, number: usize, row: &Row) -> Result<(), Fail> {
     let mut disk = MemDisk::new(alloc);
     disk.fail_at(1)?;
     assert!(rt; !passes(&mut disk, alloc, &row.step)?, "call {number}");
-    assert_eq!(rt; disk.faults(), 1, "call {number}");
-    assert!(rt; reads(&mut disk, "a", Some("old"))?, "call {number}");
-    assert!(rt; reads(&mut disk, "b", None)?, "call {number}");
+    assert!(rt; has(&mut disk, Some("old"), None)?, "call {number}");
+    disk.crash(1)?;
+    assert!(rt; has(&mut disk, Some("old"), None)?, "call {number}");
     assert!(rt; passes(&mut disk, alloc, &row.step)?, "call {number}");
-    assert!(rt; reads(&mut disk, "a", row.a)?, "call {number}");
-    assert!(rt; reads(&mut disk, "b", row.b)?, "call {number}");
+    assert!(rt; has(&mut disk, row.a, row.b)?, "call {number}");
     assert_eq!(rt; disk.faults(), 1, "call {number}");
     assert_eq!(rt; disk.starved(), 0, "call {number}");
     Ok(())
