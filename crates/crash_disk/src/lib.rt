@@ -22,8 +22,6 @@ mod mem_out;
 mod name;
 mod out;
 mod replay;
-#[cfg(test)]
-mod tests;
 
 pub use disk::Disk;
 pub use event::Event;

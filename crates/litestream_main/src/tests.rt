@@ -1,6 +1,6 @@
 use crate::file_disk::FileDisk;
 use crate::std_out::StdOut;
-use crash_disk::{Disk, DiskFault, NamesFault, Out};
+use crash_disk::{Disk, DiskFault, NameList, NamesFault, Out};
 use std::fs;
 use std::test::Fail;
 
@@ -50,6 +50,45 @@ fn a_name_of_a_real_file_changes_and_goes(rt: HostRuntime) -> Result<(), Fail> {
     disk.remove("old")?;
     disk.remove("old")?;
     assert_eq!(rt; read(&mut disk, "old", 0)?, (0, [0; 4]));
+    fs::remove_dir_all(&rt, folder)?;
+    Ok(())
+}
+
+#[test]
+fn a_real_file_is_written_at_an_offset_and_cut(rt: HostRuntime) -> Result<(), Fail> {
+    let folder = "file_disk_writes";
+    let mut disk = attached(rt, folder)?;
+    put(&mut disk, "x", b"abc")?;
+    disk.write_at("x", 1, b"xy")?;
+    disk.cut("x", 2)?;
+    disk.write_at("x", 3, b"z")?;
+    assert_eq!(rt; read(&mut disk, "x", 0)?, (4, *b"ax\0z"));
+    disk.cut("x", 6)?;
+    assert_eq!(rt; read(&mut disk, "x", 3)?, (3, *b"z\0\0\0"));
+    fs::remove_dir_all(&rt, folder)?;
+    Ok(())
+}
+
+/// Two files of levels, and three that are none.
+const MADE: [&str; 5] = ["ltx/0/x", "ltx/9/y", "ltx/9/below/x", "ltx/5/x", "note"];
+
+/// Whether a name is in the list.
+fn has(names: &NameList, wanted: &str) -> bool {
+    (0..names.len()).any(|at| names.get(at) == Some(wanted))
+}
+
+#[test]
+fn the_regular_files_of_the_levels_are_listed(rt: HostRuntime) -> Result<(), Fail> {
+    let folder = "file_disk_lists";
+    let mut disk = attached(rt, folder)?;
+    assert_eq!(rt; disk.names(rt.alloc())?.len(), 0);
+    for name in MADE {
+        disk.create(name)?;
+    }
+    disk.sync_names()?;
+    let names = disk.names(rt.alloc())?;
+    assert_eq!(rt; names.len(), 2);
+    assert!(rt; has(&names, "ltx/0/x") && has(&names, "ltx/9/y"));
     fs::remove_dir_all(&rt, folder)?;
     Ok(())
 }
