@@ -21,9 +21,11 @@ mod spelling;
 #[cfg(test)]
 mod tests;
 mod trailer;
+mod writing;
 
 pub use fault::{DecodeFault, LtxFault};
 pub use file::LtxFile;
 pub use header::LtxHeader;
 pub use reading::{decode, read_ltx_header};
 pub use spelling::{faultless_files, one_spelling};
+pub use writing::encode;
