@@ -1,0 +1,3 @@
+pub mod WalFormat
+pub mod WalFrame
+pub mod ValidPrefix
