@@ -1,2 +1,5 @@
 mod HeaderLemmas
 mod FrameLemmas
+mod WrittenLemmas
+mod ChunkLemmas
+mod PrefixLemmas

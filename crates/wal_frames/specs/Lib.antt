@@ -1,3 +1,5 @@
 pub mod WalFormat
 pub mod WalFrame
 pub mod ValidPrefix
+pub mod Scanned
+pub mod PartState

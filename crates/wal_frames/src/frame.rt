@@ -1,6 +1,7 @@
 //! One frame of a log.
 
-ghost use Rattle.std.specs.Prelude.{◌≡◌, ◌+◌, ◌%◌, ◌≤◌, ◌++◌, length, take, drop};
+ghost use Rattle.std.specs.Prelude.{◌≡◌, ◌≢◌, ◌+◌, ◌%◌, ◌≤◌, ◌++◌, length, take, drop};
+ghost use Rattle.wal_frames.specs.declared.frame.Frame.TheVariants.{Valid};
 ghost use Rattle.wal_frames.specs.WalFrame as spec;
 
 use crate::fault::NotValid;
@@ -84,6 +85,7 @@ pub fn write_frame(
     requires room { length into.old ≡ spec.frame_length head.now }
     ensures value { result ≡ spec.sums_after head.now.order sums (spec.frame_front number commit ++ page.now) }
     ensures bytes { into.new ≡ spec.frame_bytes head.now result number commit page.now }
+    ensures valid { number ≢ 0 → spec.checked head.now sums into.new ≡ Valid number commit result }
 {
     put_number(into, 0, number);
     put_number(into, 4, commit);

@@ -1,6 +1,6 @@
 //! The header of a log.
 
-ghost use Rattle.std.specs.Prelude.{◌≡◌, ◌≤◌, length, take, Some};
+ghost use Rattle.std.specs.Prelude.{◌≡◌, ◌≤◌, length, take, Some, Ok};
 ghost use Rattle.wal_frames.specs.WalFormat as spec;
 ghost use Rattle.wal_frames.specs.WalFormat.{HasSums};
 
@@ -114,7 +114,8 @@ fn magic_of(order: Order) -> u32
 /// Writes the header of a log, whose sums are those of what stands before them.
 pub fn write_wal_header(head: &WalHeader, into: &mut [u8; 32])
     requires { HasSums head.now }
-    ensures { into.new ≡ spec.header_bytes head.now }
+    ensures bytes { into.new ≡ spec.header_bytes head.now }
+    ensures reads_back { spec.read_header into.new ≡ Ok head.now }
 {
     put_number(into, 0, magic_of(head.order));
     put_number(into, 4, VERSION);

@@ -10,10 +10,13 @@
 #![tactic(auto)]
 
 mod fault;
+mod fed;
 mod field;
 mod frame;
 mod header;
+mod part;
 
 pub use fault::{NotValid, WalHeaderFault};
+pub use fed::Fed;
 pub use frame::{Frame, check_frame, write_frame};
 pub use header::{WalHeader, read_wal_header, write_wal_header};

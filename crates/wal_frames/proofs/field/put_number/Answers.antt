@@ -4,8 +4,8 @@ use Rattle.std.proofs.lemmas.Slice.{take-put_mid}
 use Rattle.byteorder.specs.Endian.{big_bytes}
 use Rattle.wal_frames.proofs.field.put_number.Goals as goal
 
-pub returns : goal.returns
-returns c =
+pub returns-clause-bytes : goal.returns-clause-bytes
+returns-clause-bytes c =
     let at = c.args.at in
     let xs = c.args.into.now in
     let bytes = big_bytes 4 c.args.number in

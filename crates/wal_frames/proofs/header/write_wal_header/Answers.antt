@@ -1,12 +1,28 @@
 use Rattle.std.proofs.Common.{◌≡◌, ◌∙◌, length, take, sym, refl, arith}
 use Rattle.std.proofs.Math.Seq.{take-length}
 use Rattle.wal_frames.specs.WalFormat.{header_front, header_bytes}
+use Rattle.wal_frames.proofs.WrittenLemmas.{FitsHeader, header_reads_back}
+use Rattle.wal_frames.proofs.HeaderLemmas.{page_size_fits}
 use Rattle.wal_frames.proofs.header.write_wal_header.Goals as goal
 
-pub returns : goal.returns
+pub returns-clause-bytes : goal.returns-clause-bytes
 unfolding header_bytes header_front
-returns c =
+returns-clause-bytes c =
     let written = c.put_number-8.new.into in
     let len : length written ≡ 32 = omega arith in
     let all : take 32 written ≡ written = rw (← len) (take-length written) in
-    sym all ∙ rw (c.put_number-8.ensures, c.put_number-7.ensures, c.put_number-6.ensures, c.put_number-5.ensures, c.put_number-4.ensures, c.put_number-3.ensures, c.put_number-2.ensures, c.put_number.ensures, c.magic_of.ensures, c.get.ensures.value) refl
+    sym all ∙ rw (c.put_number-8.ensures.bytes, c.put_number-7.ensures.bytes, c.put_number-6.ensures.bytes, c.put_number-5.ensures.bytes, c.put_number-4.ensures.bytes, c.put_number-3.ensures.bytes, c.put_number-2.ensures.bytes, c.put_number.ensures.bytes, c.magic_of.ensures, c.get.ensures.value) refl
+
+pub returns-clause-reads_back : goal.returns-clause-reads_back
+returns-clause-reads_back c =
+    let h = c.args.head.now in
+    let fits : FitsHeader h = record {
+      size = c.get.ensures.valid;
+      small = page_size_fits h.size c.get.ensures.valid;
+      seq = c.put_number-4.ensures.fits;
+      salt1 = c.put_number-5.ensures.fits;
+      salt2 = c.put_number-6.ensures.fits;
+      s0 = c.put_number-7.ensures.fits;
+      s1 = c.put_number-8.ensures.fits;
+    } in
+    rw (returns-clause-bytes c) (header_reads_back h fits c.requires)
