@@ -3,3 +3,8 @@ mod FrameLemmas
 mod WrittenLemmas
 mod ChunkLemmas
 mod PrefixLemmas
+mod AcceptedLemmas
+mod CutLemmas
+mod CheckedLemmas
+mod TakenLemmas
+mod BackLemmas

@@ -1,5 +1,5 @@
 -- The valid prefix of a list of frames, and one frame more.
-use Rattle.std.proofs.Common.{◌≡◌, ◌∙◌, ℕ, zero, suc, ◌+◌, ◌%◌, Bool, true, false, cond, eqb, List, [], ◌∷◌, ◌++◌, length, take, drop, Option, Some, None, sym, ap, refl, arith, append_assoc, append-nil, length-append, length-drop}
+use Rattle.std.proofs.Common.{◌≡◌, ◌∙◌, ℕ, ◌%◌, List, [], ◌∷◌, ◌++◌, length, take, drop, Option, Some, None, sym, ap, refl, arith, append_assoc, append-nil, length-append, length-drop}
 use Rattle.std.specs.Option.{option_or}
 use Rattle.std.specs.List.{flat_map}
 use Rattle.std.proofs.lemmas.Grind.{flat_map-append}
@@ -11,8 +11,8 @@ use Rattle.ls_sums.proofs.PairLemmas.{after_words-append}
 use Rattle.wal_frames.specs.declared.header.WalHeader.{WalHeader}
 use Rattle.wal_frames.specs.declared.fault.NotValid.{NotValid}
 use Rattle.wal_frames.specs.WalFormat.{sums_of}
-use Rattle.wal_frames.specs.WalFrame.{frame_length, commit_size, summed_part, sums_after}
-use Rattle.wal_frames.specs.ValidPrefix.{summed_bytes, prefix_sums, fault_behind, if_valid, valid_behind, stop_behind, last_mark_behind, mark_of}
+use Rattle.wal_frames.specs.WalFrame.{frame_length, summed_part, sums_after}
+use Rattle.wal_frames.specs.ValidPrefix.{prefix_sums, fault_behind, if_valid, valid_behind, stop_behind, last_mark_behind, mark_of, mark_after, last_mark}
 use Rattle.wal_frames.proofs.ChunkLemmas.{AreLong}
 
 -- ---- the sums of a prefix, and of one frame more
@@ -139,6 +139,10 @@ module _ (front : List ℕ) (h : WalHeader) where
   pub last-more : (before : List (List ℕ)) (last : Option Mark) (frames others : List (List ℕ)) → last_mark_behind h before last (frames ++ others) ≡ last_mark_behind h (before ++ frames) (last_mark_behind h before last frames) others
   last-more before last [] others = rw (append-nil before) refl
   last-more before last (frame ∷ frames) others =
-      let now = cond (eqb (commit_size frame) 0) last (Some (mark_of h before frame)) in
+      let now = mark_after last (mark_of h before frame) in
       last-more (before ++ frame ∷ []) now frames others
       ∙ ap (λ (passed : List (List ℕ)). last_mark_behind h passed (last_mark_behind h (before ++ frame ∷ []) now frames) others) (grouped before frame frames)
+
+  pub last_mark-more : (frames : List (List ℕ)) (frame : List ℕ) → last_mark h (frames ++ frame ∷ []) ≡ mark_after (last_mark h frames) (mark_of h frames frame)
+  unfolding last_mark
+  last_mark-more frames frame = last-more [] None frames (frame ∷ [])

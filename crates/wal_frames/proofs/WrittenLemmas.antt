@@ -1,16 +1,15 @@
 -- What is written is read back.
-use Rattle.std.proofs.Common.{◌≡◌, ◌≢◌, ◌∙◌, ℕ, ◌+◌, ◌^◌, ◌<◌, Bool, true, false, List, ◌++◌, length, take, drop, Option, Some, None, Ok, sym, ap, refl, eqb, arith}
+use Rattle.std.proofs.Common.{◌≡◌, ◌≢◌, ℕ, ◌^◌, ◌<◌, List, ◌++◌, length, take, drop, Some, Ok, refl, arith}
 use Rattle.std.proofs.lemmas.Bool.{eq-eqb, ne_eqb}
-use Rattle.std.proofs.lemmas.List.{take_at}
 use Rattle.byteorder.specs.Numbers.{big_number-reads_back}
-use Rattle.ls_base.specs.PageSize.{IsPageSize, is_page_size}
+use Rattle.ls_base.specs.PageSize.{IsPageSize}
 use Rattle.ls_base.proofs.PageSizeLemmas.{test_passes}
 use Rattle.ls_sums.specs.declared.order.Order.{Order}
 use Rattle.ls_sums.specs.declared.order.Order.TheVariants.{Little, Big}
 use Rattle.ls_sums.specs.declared.wal_sum.WalSum.{WalSum}
 use Rattle.wal_frames.specs.declared.header.WalHeader.{WalHeader}
 use Rattle.wal_frames.specs.declared.frame.Frame.TheVariants.{Valid}
-use Rattle.wal_frames.specs.WalFormat.{number_at, sums_of, header_front, header_bytes, HasSums, magic, order_of, header_in, read_behind_magic, read_header}
+use Rattle.wal_frames.specs.WalFormat.{number_at, header_front, header_bytes, HasSums, magic, order_of, read_behind_magic, read_header}
 use Rattle.wal_frames.specs.WalFrame.{frame_front, frame_bytes, summed_part, sums_after, checked}
 
 -- each number of the header fits four bytes
@@ -129,5 +128,19 @@ module _ (h : WalHeader) (sums : WalSum) (number commit : ℕ) (page : List ℕ)
     pub frame_is_valid : (before : WalSum) → number ≢ 0 → sums ≡ sums_after h.order before (frame_front number commit ++ page) → checked h before (frame_bytes h sums number commit page) ≡ Valid number commit sums
     unfolding frame
     frame_is_valid before some is =
-        rw (part_read, ← is, number_read, frame_salt1_read, frame_salt2_read, frame_s0_read, frame_s1_read,
-        eq-eqb h.salt1 h.salt1 refl, eq-eqb h.salt2 h.salt2 refl, ne_eqb number 0 some, eq-eqb sums.s0 sums.s0 refl, eq-eqb sums.s1 sums.s1 refl, commit_read, number_read) refl
+        rw (
+          part_read,
+          ← is,
+          number_read,
+          frame_salt1_read,
+          frame_salt2_read,
+          frame_s0_read,
+          frame_s1_read,
+          eq-eqb h.salt1 h.salt1 refl,
+          eq-eqb h.salt2 h.salt2 refl,
+          ne_eqb number 0 some,
+          eq-eqb sums.s0 sums.s0 refl,
+          eq-eqb sums.s1 sums.s1 refl,
+          commit_read,
+          number_read,
+        ) refl

@@ -1,5 +1,5 @@
 -- What a scan of a log has found in the bytes that it took.
-use Rattle.std.specs.Prelude.{◌≡◌, ℕ, ◌+◌, ◌-◌, ◌≤◌, List, [], ◌∷◌, ◌++◌, length, take, drop, Option, Some, None, Ok, IsOkAnd}
+use Rattle.std.specs.Prelude.{◌≡◌, ℕ, ◌-◌, ◌≤◌, List, [], ◌∷◌, ◌++◌, length, take, drop, Option, Some, None, Ok, IsOkAnd}
 use Rattle.ls_base.specs.declared.mark.Mark.{Mark}
 use Rattle.ls_sums.specs.declared.wal_sum.WalSum.{WalSum}
 use Rattle.wal_frames.specs.declared.header.WalHeader.{WalHeader}
@@ -7,7 +7,7 @@ use Rattle.wal_frames.specs.declared.fault.NotValid.{NotValid}
 use Rattle.wal_frames.specs.declared.fed.Fed.{Fed}
 use Rattle.wal_frames.specs.declared.fed.Fed.TheVariants.{All, Frame}
 use Rattle.wal_frames.specs.WalFormat.{read_header}
-use Rattle.wal_frames.specs.WalFrame.{frame_length, page_number, commit_size}
+use Rattle.wal_frames.specs.WalFrame.{page_number, commit_size}
 use Rattle.wal_frames.specs.ValidPrefix.{prefix_sums, frames_under, stop_under, if_accepted, valid_frames, end_of, last_mark, IsMarkOf}
 
 -- what a scan keeps
@@ -28,22 +28,15 @@ abbrev pub held_behind : Option NotValid → List ℕ → List ℕ
 held_behind None bytes = bytes
 held_behind (Some fault) bytes = []
 
--- what a scan keeps of a log with this header
-abbrev pub scanned_under : WalHeader → List ℕ → Scanned
-scanned_under h log = record {
-  head = h;
-  taken = length log - 32;
-  end = end_of h (frames_under h log);
-  sums = prefix_sums (take 24 log) h (frames_under h log);
-  held = held_behind (stop_under h log) (drop (end_of h (frames_under h log)) log);
-  last = last_mark h (frames_under h log);
-  stopped = stop_under h log;
-}
-
 -- The scan has taken these bytes of the log: its header, which is accepted, and what came behind it.
 pub record HasTaken (s : Scanned) (log : List ℕ) : Type 0 where
   pub accepted : read_header log ≡ Ok s.head
-  pub is : s ≡ scanned_under s.head log
+  pub is_taken : s.taken ≡ length log - 32
+  pub is_end : s.end ≡ end_of s.head (frames_under s.head log)
+  pub is_sums : s.sums ≡ prefix_sums (take 24 log) s.head (frames_under s.head log)
+  pub is_held : s.held ≡ held_behind (stop_under s.head log) (drop (end_of s.head (frames_under s.head log)) log)
+  pub is_last : s.last ≡ last_mark s.head (frames_under s.head log)
+  pub is_stopped : s.stopped ≡ stop_under s.head log
 
 -- the last mark of a log's valid prefix
 abbrev pub last_mark_of : List ℕ → Option Mark

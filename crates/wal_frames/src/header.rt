@@ -10,7 +10,7 @@ use ls_base::PageSize;
 use ls_sums::{Order, WalSum};
 
 /// The length of a log's header in bytes.
-const HEADER_BYTES: usize = 32;
+pub(crate) const HEADER_BYTES: usize = 32;
 /// How many bytes of the header its sums are over.
 const SUMMED_BYTES: usize = 24;
 /// The magic of a log whose sums read words with the lowest byte first.

@@ -15,8 +15,10 @@ mod field;
 mod frame;
 mod header;
 mod part;
+mod scan;
 
 pub use fault::{NotValid, WalHeaderFault};
 pub use fed::Fed;
 pub use frame::{Frame, check_frame, write_frame};
 pub use header::{WalHeader, read_wal_header, write_wal_header};
+pub use scan::Scan;
