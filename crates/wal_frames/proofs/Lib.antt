@@ -8,3 +8,4 @@ mod CutLemmas
 mod CheckedLemmas
 mod TakenLemmas
 mod BackLemmas
+mod StandardFacts

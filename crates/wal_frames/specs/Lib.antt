@@ -3,3 +3,4 @@ pub mod WalFrame
 pub mod ValidPrefix
 pub mod Scanned
 pub mod PartState
+pub mod View

@@ -1,5 +1,5 @@
 -- What a scan of a log has found in the bytes that it took.
-use Rattle.std.specs.Prelude.{◌≡◌, ℕ, ◌-◌, ◌≤◌, List, [], ◌∷◌, ◌++◌, length, take, drop, Option, Some, None, Ok, IsOkAnd}
+use Rattle.std.specs.Prelude.{◌≡◌, ℕ, ◌+◌, ◌-◌, ◌≤◌, List, [], ◌∷◌, ◌++◌, length, take, drop, Option, Some, None, Ok, IsOkAnd}
 use Rattle.ls_base.specs.declared.mark.Mark.{Mark}
 use Rattle.ls_sums.specs.declared.wal_sum.WalSum.{WalSum}
 use Rattle.wal_frames.specs.declared.header.WalHeader.{WalHeader}
@@ -62,7 +62,8 @@ pub record EndsFrame (before after : List ℕ) (number commit end : ℕ) : Type 
 -- took the piece up to the first such end.
 abbrev pub Feeds : Scanned → Scanned → List ℕ → Fed → Type 0
 Feeds old new piece All =
-    (log : List ℕ) → HasTaken old log → HasTaken new (log ++ piece) × (valid_frames (log ++ piece) ≡ valid_frames log)
+    (new.taken ≡ old.taken + length piece)
+    × ((log : List ℕ) → HasTaken old log → HasTaken new (log ++ piece) × (valid_frames (log ++ piece) ≡ valid_frames log))
 Feeds old new piece (Frame taken number commit end) =
-    (taken ≤ length piece)
+    (1 ≤ taken) × (taken ≤ length piece) × (new.taken ≡ old.taken + taken)
     × ((log : List ℕ) → HasTaken old log → HasTaken new (log ++ take taken piece) × EndsFrame log (log ++ take taken piece) number commit end)

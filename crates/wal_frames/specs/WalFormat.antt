@@ -1,8 +1,8 @@
 -- The write-ahead log: SQLite database file format, sections 4.1 and 4.2. All numbers are big-endian; the
 -- sums read words in the order that the magic names.
-use Rattle.std.specs.Prelude.{◌≡◌, ℕ, ◌+◌, ◌==◌, ◌&&◌, not, nat_lt, if◌then◌else◌, List, ◌++◌, length, take, drop, Bool, Option, Some, None, Result, Ok, Err}
+use Rattle.std.specs.Prelude.{◌≡◌, ◌^◌, ◌<◌, ℕ, ◌+◌, ◌==◌, ◌&&◌, not, nat_lt, if◌then◌else◌, List, ◌++◌, length, take, drop, Bool, Option, Some, None, Result, Ok, Err}
 use Rattle.byteorder.specs.Endian.{big_number, big_bytes}
-use Rattle.ls_base.specs.PageSize.{is_page_size}
+use Rattle.ls_base.specs.PageSize.{IsPageSize, is_page_size}
 use Rattle.ls_sums.specs.declared.order.Order.{Order}
 use Rattle.ls_sums.specs.declared.order.Order.TheVariants.{Little, Big}
 use Rattle.ls_sums.specs.declared.wal_sum.WalSum.{WalSum}
@@ -47,6 +47,21 @@ header_bytes h = header_front h ++ big_bytes 4 h.s0 ++ big_bytes 4 h.s1
 
 abbrev pub HasSums : WalHeader → Type 0
 HasSums h = sums_of h.order (header_front h) ≡ record { s0 = h.s0; s1 = h.s1 }
+
+-- the header says this
+pub record HasFields (h : WalHeader) (order : Order) (size seq salt1 salt2 : ℕ) : Type 0 where
+  pub is_order : h.order ≡ order
+  pub is_size : h.size ≡ size
+  pub is_seq : h.seq ≡ seq
+  pub is_salt1 : h.salt1 ≡ salt1
+  pub is_salt2 : h.salt2 ≡ salt2
+
+-- what stands before the sums fits its bytes
+pub record FitsFront (h : WalHeader) : Type 0 where
+  pub size : IsPageSize h.size
+  pub seq : h.seq < 2 ^ 32
+  pub salt1 : h.salt1 < 2 ^ 32
+  pub salt2 : h.salt2 < 2 ^ 32
 
 -- the fields of a header whose magic names this order
 abbrev pub header_in : Order → List ℕ → WalHeader

@@ -2,7 +2,7 @@
 
 ghost use Rattle.std.specs.Prelude.{◌≡◌, ◌≤◌, length, take, Some, Ok};
 ghost use Rattle.wal_frames.specs.WalFormat as spec;
-ghost use Rattle.wal_frames.specs.WalFormat.{HasSums};
+ghost use Rattle.wal_frames.specs.WalFormat.{HasSums, HasFields, FitsFront};
 
 use crate::fault::WalHeaderFault;
 use crate::field::{number_at, put_number};
@@ -37,6 +37,44 @@ pub struct WalHeader {
     pub s0: u32,
     /// The second sum over the same bytes.
     pub s1: u32,
+}
+
+impl WalHeader {
+    /// The header of a log with these fields, and with its sums. Takes no memory.
+    pub fn new(order: Order, size: PageSize, seq: u32, salt1: u32, salt2: u32) -> WalHeader
+        ensures fields { HasFields result order size seq salt1 salt2 }
+        ensures sums { HasSums result }
+    {
+        let head = WalHeader {
+            order,
+            size,
+            seq,
+            salt1,
+            salt2,
+            s0: 0,
+            s1: 0,
+        };
+        let sums = front_sums(&head);
+        WalHeader {
+            order,
+            size,
+            seq,
+            salt1,
+            salt2,
+            s0: sums.s0,
+            s1: sums.s1,
+        }
+    }
+}
+
+/// The sums of what stands before the sums of a header.
+#[tactic(auto, unfolding(crate::specs::WalFormat::sums_of))]
+fn front_sums(head: &WalHeader) -> WalSum
+    ensures { result ≡ spec.sums_of head.now.order (spec.header_front head.now) }
+{
+    let mut bytes = [0; HEADER_BYTES];
+    put_front(head, &mut bytes);
+    WalSum::start().over(head.order, &bytes[..SUMMED_BYTES])
 }
 
 /// The header with which the bytes of a log begin.
@@ -117,12 +155,21 @@ pub fn write_wal_header(head: &WalHeader, into: &mut [u8; 32])
     ensures bytes { into.new ≡ spec.header_bytes head.now }
     ensures reads_back { spec.read_header into.new ≡ Ok head.now }
 {
+    put_front(head, into);
+    put_number(into, 24, head.s0);
+    put_number(into, 28, head.s1);
+}
+
+/// Writes what stands before the sums of a header.
+fn put_front(head: &WalHeader, into: &mut [u8])
+    requires { 32 ≤ length into.old }
+    ensures bytes { take 24 into.new ≡ spec.header_front head.now }
+    ensures fits { FitsFront head.now }
+{
     put_number(into, 0, magic_of(head.order));
     put_number(into, 4, VERSION);
     put_number(into, 8, head.size.get());
     put_number(into, 12, head.seq);
     put_number(into, 16, head.salt1);
     put_number(into, 20, head.salt2);
-    put_number(into, 24, head.s0);
-    put_number(into, 28, head.s1);
 }

@@ -16,6 +16,8 @@ mod frame;
 mod header;
 mod part;
 mod scan;
+#[cfg(test)]
+mod tests;
 
 pub use fault::{NotValid, WalHeaderFault};
 pub use fed::Fed;

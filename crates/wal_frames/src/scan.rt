@@ -1,6 +1,6 @@
 //! The scan of a log.
 
-ghost use Rattle.std.specs.Prelude.{◌≡◌, ℕ, ◌+◌, ◌<◌, ◌^◌, ◌≤◌, ◌++◌, [], List, Option, Some, length, take, IfOk, Ok};
+ghost use Rattle.std.specs.Prelude.{◌≡◌, ℕ, ◌+◌, ◌-◌, ◌<◌, ◌^◌, ◌≤◌, ◌++◌, [], List, Option, Some, length, take, IfOk, Ok};
 ghost use Rattle.wal_frames.specs.WalFormat.{read_header};
 ghost use Rattle.wal_frames.specs.WalFrame as format;
 ghost use Rattle.wal_frames.specs.ValidPrefix.{mark_with, mark_after};
@@ -110,6 +110,7 @@ impl Scan {
     /// Goes back to a mark of the valid prefix: the bytes taken are then those before its end. Takes no memory.
     pub fn back(&mut self, to: &Mark)
         ensures value { (log : List ℕ) → HasTaken self.old log → IsMark log to.now → HasTaken self.new (take to.now.end log) }
+        ensures taken { self.new.taken ≡ to.now.end - 32 }
     {
         self.part.clear();
         self.taken = to.end.saturating_sub(HEADER_BYTES as u64);

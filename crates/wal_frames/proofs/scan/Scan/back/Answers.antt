@@ -13,4 +13,5 @@ returns c = record {
       let told = taken_of old c.args.self.now log c.self.view_is t in
       let gone = has_gone_back log s.head (accepts log s.head told.accepted) c.args.to.now (is_mark_under log s.head c.args.to.now told.accepted is_mark) told.accepted in
       taken_of _ _ _ (same_scan _ _ refl (omega (arith, c.saturating_sub-self-inside.ensures)) refl refl (ap (λ p. p.bytes) c.clear.ensures) refl refl) gone;
+  taken = c.saturating_sub-self-inside.ensures;
 }

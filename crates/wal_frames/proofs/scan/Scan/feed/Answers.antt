@@ -9,26 +9,28 @@ use Rattle.wal_frames.proofs.scan.Scan.feed.Goals as goal
 
 pub returns-then-is_some : goal.returns-then-is_some
 returns-then-is_some c = record {
-  value = λ log t.
+  value = (ap (λ (v : Scanned). v.taken + length c.args.piece.now) c.self.view_is, λ log t.
       let s = c.self.inside in
       let old : Scanned = record { head = s.head; taken = s.taken; end = s.end; sums = s.sums; held = s.part.bytes; last = s.last; stopped = s.stopped } in
       let stop = some_of s.stopped (sym c.is_some.ensures ∙ c.if-is_some.true) in
-      taken_stopped old log (taken_of old c.args.self.now log c.self.view_is t) c.args.piece.now stop.0 stop.1;
+      taken_stopped old log (taken_of old c.args.self.now log c.self.view_is t) c.args.piece.now stop.0 stop.1);
 }
 
 pub returns-then-piece-missing : goal.returns-then-piece-missing
 returns-then-piece-missing c = record {
-  value = λ log t.
+  value = (ap (λ (v : Scanned). v.taken + length c.args.piece.now) c.self.view_is, λ log t.
       let s = c.self.inside in
       let old : Scanned = record { head = s.head; taken = s.taken; end = s.end; sums = s.sums; held = s.part.bytes; last = s.last; stopped = s.stopped } in
       let none = none_of s.stopped (sym c.is_some.ensures ∙ c.if-is_some.false) in
-      rw c.push.ensures (taken_part old log (taken_of old c.args.self.now log c.self.view_is t) c.args.piece.now none (omega (arith, c.if-piece-missing.true, c.len.ensures.value, c.get.ensures.value)));
+      rw c.push.ensures (taken_part old log (taken_of old c.args.self.now log c.self.view_is t) c.args.piece.now none (omega (arith, c.if-piece-missing.true, c.len.ensures.value, c.get.ensures.value))));
 }
 
 pub returns-in-Valid : goal.returns-in-Valid
 returns-in-Valid c = record {
   value = (
+    omega (arith, c.len.ensures.value, c.get.ensures.value, c.self.invariant.1, c.self.invariant.0),
     c.if-piece-missing.false,
+    ap (λ (v : Scanned). v.taken + (24 + c.get.result - c.len.result)) c.self.view_is,
     λ log t.
         let s = c.self.inside in
         let old : Scanned = record { head = s.head; taken = s.taken; end = s.end; sums = s.sums; held = s.part.bytes; last = s.last; stopped = s.stopped } in
@@ -50,7 +52,7 @@ returns-in-Valid c = record {
 
 pub returns-in-Not : goal.returns-in-Not
 returns-in-Not c = record {
-  value = λ log t.
+  value = (ap (λ (v : Scanned). v.taken + length c.args.piece.now) c.self.view_is, λ log t.
       let s = c.self.inside in
       let old : Scanned = record { head = s.head; taken = s.taken; end = s.end; sums = s.sums; held = s.part.bytes; last = s.last; stopped = s.stopped } in
       let missing = 24 + c.get.result - c.len.result in
@@ -70,5 +72,5 @@ returns-in-Not c = record {
       let final : Scanned = record mid { taken = mid.taken + length y } in (
         taken_of _ final (log ++ piece) (same_scan _ final refl lengths refl refl (ap (λ p. p.bytes) c.checked.ensures.held) refl refl) (subst (λ (l : List ℕ). HasTaken final l) joined after.0),
         ap valid_frames (sym joined) ∙ after.1 ∙ got.1,
-      );
+      ));
 }
