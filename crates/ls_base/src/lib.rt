@@ -11,6 +11,7 @@
 mod bytes;
 mod change_pages;
 mod line;
+mod mark;
 mod memory;
 mod page;
 mod page_size;
@@ -23,6 +24,7 @@ mod txid;
 pub use bytes::Bytes;
 pub use change_pages::ChangePages;
 pub use line::Line;
+pub use mark::Mark;
 pub use memory::Memory;
 pub use page::Page;
 pub use page_size::PageSize;

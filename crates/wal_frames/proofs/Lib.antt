@@ -1,0 +1,11 @@
+mod HeaderLemmas
+mod FrameLemmas
+mod WrittenLemmas
+mod ChunkLemmas
+mod PrefixLemmas
+mod AcceptedLemmas
+mod CutLemmas
+mod CheckedLemmas
+mod TakenLemmas
+mod BackLemmas
+mod StandardFacts
