@@ -1,0 +1,4 @@
+pub mod ChainLemmas
+pub mod MomentLemmas
+pub mod OrderLemmas
+pub mod RunLemmas
