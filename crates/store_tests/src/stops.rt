@@ -1,0 +1,49 @@
+//! A put that a stop of the machine cuts off, and what a crash then leaves.
+
+use crate::content::{PATH, name_of, reads};
+use crate::putting::{CALLS, WHOLE, put_in_two};
+use crash_disk::{Disk, MemDisk};
+use std::alloc::Global;
+use std::process::Abort;
+use std::test::Fail;
+
+/// Whether the file is there after a put that was stopped behind so many calls, and a crash by a choice.
+///
+/// The last two calls are the rename and the sync of the names. Choice 0 takes no change of a name that wasn't
+/// synced, choices 1 and 2 take all of them; each other may take the rename or not.
+fn stands(calls: u64, choice: u64) -> Option<bool> {
+    match (choice, CALLS - calls) {
+        (_, 0) => Some(true),
+        (1 | 2, 1) => Some(true),
+        (0, _) => Some(false),
+        (_, 1) => None,
+        _ => Some(false),
+    }
+}
+
+fn check(rt: &impl Abort, alloc: Global, calls: u64, choice: u64) -> Result<(), Fail> {
+    let name = name_of(PATH)?;
+    let mut store = MemDisk::new(alloc);
+    store.stop_after(calls);
+    let done = put_in_two(&mut store, &name).is_ok();
+    assert_eq!(rt; done, calls == CALLS, "stop after {calls}");
+    store.crash(choice)?;
+    let whole = reads(alloc, &mut store, &name, Some(WHOLE))?;
+    let absent = reads(alloc, &mut store, &name, None)?;
+    assert!(rt; whole || absent, "stop after {calls}, choice {choice}");
+    assert!(rt;
+        stands(calls, choice).is_none_or(|stands| stands == whole),
+        "stop after {calls}, choice {choice}"
+    );
+    Ok(())
+}
+
+#[test]
+fn a_stopped_put_leaves_the_whole_file_or_none(rt: HostRuntime) -> Result<(), Fail> {
+    for calls in 0..8 {
+        for choice in 0..8 {
+            check(&rt, rt.alloc(), calls, choice)?;
+        }
+    }
+    Ok(())
+}
