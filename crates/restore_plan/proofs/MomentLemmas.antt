@@ -4,7 +4,7 @@ use Rattle.std.specs.List.{Contains}
 use Rattle.std.specs.Option.{IsSomeAnd}
 use Rattle.std.proofs.lemmas.Bool.{eqb-true, cases_eq}
 use Rattle.std.proofs.lemmas.List.{at_drop_more}
-use Rattle.replica_store.specs.declared.dated.Dated.{Dated}
+use Rattle.replica_store.specs.declared.dated_names.Dated.{Dated}
 use Rattle.replica_store.specs.Chain.{moment_of, names_of}
 use Rattle.restore_plan.specs.Moment.{IsRetainedAt}
 use Rattle.restore_plan.specs.Retained.{IsGreatestRetainedBelow}

@@ -1,7 +1,7 @@
 -- The last transaction at or before a moment. This project's rule.
 use Rattle.std.specs.Prelude.{ℕ, ◌≤◌, List}
 use Rattle.std.specs.Option.{IsSomeAnd}
-use Rattle.replica_store.specs.declared.dated.Dated.{Dated}
+use Rattle.replica_store.specs.declared.dated_names.Dated.{Dated}
 use Rattle.replica_store.specs.Chain.{IsRetained, moment_of, names_of}
 
 -- a retained transaction whose moment is at or before the given one

@@ -3,7 +3,7 @@
 ghost use Rattle.std.specs.Prelude.{◌≡◌, ◌↔◌, ℕ, ◌^◌, ◌<◌, ◌≤◌, IsTrue, IfSome};
 ghost use Rattle.std.specs.List.{Contains};
 ghost use Rattle.std.specs.Option.{IfNone, IsSomeAnd};
-ghost use Rattle.replica_store.specs.declared.dated.Dated.{Dated};
+ghost use Rattle.replica_store.specs.declared.dated_names.Dated.{Dated};
 ghost use Rattle.replica_store.specs.Chain.{IsListOrdered, names_of, moment_of};
 ghost use Rattle.restore_plan.specs.Moment.{IsRetainedAt, IsLastAt};
 

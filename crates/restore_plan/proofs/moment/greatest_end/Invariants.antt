@@ -1,5 +1,5 @@
 use Rattle.std.proofs.Common.{ℕ, ◌^◌, ◌≤◌, ◌<◌, get_or}
-use Rattle.replica_store.specs.declared.dated.Dated.{Dated}
+use Rattle.replica_store.specs.declared.dated_names.Dated.{Dated}
 use Rattle.restore_plan.proofs.moment.greatest_end.Given as goal
 
 abbrev pub invariant-loop-name : goal.invariant-loop-name
