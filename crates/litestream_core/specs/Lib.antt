@@ -1,11 +1,7 @@
 pub mod Outcome
 pub mod Request
 pub mod RequestView
-pub mod Stop
-pub mod Staging
-pub mod Whole
-pub mod Reading
 pub mod Line
-pub mod Faithful
+pub mod Asked
 pub mod Command
 pub mod Preparing

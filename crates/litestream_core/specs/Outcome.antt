@@ -1,13 +1,19 @@
 use Rattle.std.specs.Prelude.{ℕ}
 use Rattle.litestream_core.specs.declared.outcome.Why.{Why}
-use Rattle.litestream_core.specs.declared.outcome.Why.TheVariants.{Done, NotBuilt, MissingRange, Damaged, OutputExists, StoreFault, TargetFault, SinkFault, Memory}
+use Rattle.litestream_core.specs.declared.outcome.Why.TheVariants.{Done, SkippedOutput, SkippedReplica, NotBuilt, Usage, NoReplica, MissingRange, NoMoment, Damaged, PageMissing, OutputExists, StoreFault, TargetFault, SinkFault, Memory}
 
 -- the exit status of each cause
 abbrev pub status_of : Why → ℕ
 status_of Done = 0
+status_of SkippedOutput = 0
+status_of SkippedReplica = 0
 status_of NotBuilt = 2
+status_of (Usage usage) = 2
+status_of NoReplica = 1
 status_of (MissingRange after) = 1
+status_of NoMoment = 1
 status_of (Damaged name damage) = 1
+status_of (PageMissing name number) = 1
 status_of (OutputExists size) = 1
 status_of StoreFault = 3
 status_of TargetFault = 3

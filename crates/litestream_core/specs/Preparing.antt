@@ -1,45 +1,97 @@
 -- What a restore has in hand before it writes, and why it may not come so far.
-use Rattle.std.specs.Prelude.{◌≡◌, ℕ, [], Some, None, ⊤, string_bytes}
+use Rattle.std.specs.Prelude.{◌≡◌, ◌≢◌, ℕ, ℤ, List, [], true, false, Some, IsSome, ⊤, ◌⊎◌}
 use Rattle.crash_disk.specs.declared.fault.NamesFault.{NamesFault}
 use Rattle.crash_disk.specs.declared.fault.NamesFault.TheVariants.{Disk, Memory as no_memory}
 use Rattle.crash_disk.specs.Fault.{Rose}
 use Rattle.crash_disk.specs.Told.{Told, IfTold}
 use Rattle.crash_disk.specs.Files.{file_at, size_of}
-use Rattle.ltx_format.specs.declared.fault.LtxFault.TheVariants.{NotFile}
-use Rattle.ltx_format.specs.LtxFormat.{change_of}
-use Rattle.litestream_core.specs.declared.command.Prepared.{Prepared}
-use Rattle.litestream_core.specs.declared.outcome.Damage.TheVariants.{File}
+use Rattle.replica_store.specs.declared.error.StoreError.{StoreError}
+use Rattle.replica_store.specs.declared.error.StoreError.TheVariants as error
+use Rattle.replica_store.specs.declared.file_name.FileName.{FileName}
+use Rattle.replica_store.specs.Dating.{IsFirstBadHeader}
+use Rattle.replica_store.specs.Listing.{AreListed}
+use Rattle.restore_apply.specs.declared.restored.RestoreFault.{RestoreFault}
+use Rattle.restore_apply.specs.declared.restored.RestoreFault.TheVariants as fault
 use Rattle.litestream_core.specs.declared.outcome.Why.{Why}
-use Rattle.litestream_core.specs.declared.outcome.Why.TheVariants.{Done, NotBuilt, MissingRange, Damaged, OutputExists, StoreFault, TargetFault, SinkFault, Memory}
+use Rattle.litestream_core.specs.declared.outcome.Why.TheVariants.{Done, SkippedOutput, SkippedReplica, NotBuilt, Usage, NoReplica, MissingRange, NoMoment, Damaged, PageMissing, OutputExists, StoreFault, TargetFault, SinkFault, Memory}
+use Rattle.litestream_core.specs.Asked.{IsMissing, IsBefore, IsBadHeader, IsTooEarly}
 use Rattle.litestream_core.specs.Command.{LacksOutput}
-use Rattle.replica_store.specs.NameText.{whole_path}
-use Rattle.litestream_core.specs.Reading.{IsRead, IsDamaged, IsWholeName}
 use Rattle.litestream_core.specs.Request.{Request}
-use Rattle.litestream_core.specs.Staging.{temporary_name}
-use Rattle.litestream_core.specs.Whole.{HoldsEachPage}
 
 -- the refusal that a fault of an `attach` becomes
 abbrev pub IsRefusalOf : Why → NamesFault → Why → Type 0
 IsRefusalOf outside (Disk fault) why = why ≡ outside
 IsRefusalOf outside no_memory why = why ≡ Memory
 
--- the file was read, and what writing it needs is there
-pub record IsReady (store : Told) (r : Request) (ready : Prepared) : Type 0 where
-  pub read : IfTold store (λ events. IsRead events r.txid ready.file)
-  pub whole : HoldsEachPage (change_of ready.file)
-  pub nothing_gathered : ready.gathered ≡ []
-  pub temporary : string_bytes ready.temporary ≡ temporary_name r.output
+-- the answer that an error of the replica becomes
+abbrev pub why_of_error : StoreError → Why
+why_of_error (error.Store fault) = StoreFault
+why_of_error (error.Damaged name damage) = Damaged name damage
+why_of_error error.Memory = Memory
 
--- why a restore didn't come so far
+-- the answer that a fault of a restore becomes
+abbrev pub why_of_fault : RestoreFault → Why
+why_of_fault (fault.Damaged name damage) = Damaged name damage
+why_of_fault (fault.PageMissing name number) = PageMissing name number
+why_of_fault (fault.Store disk) = StoreFault
+why_of_fault (fault.Target disk) = TargetFault
+why_of_fault fault.Memory = Memory
+
+-- why the output may not be written
+abbrev pub ExplainsOutput : Request → Told → ℕ → ℕ → Why → Type 0
+ExplainsOutput r target before now SkippedOutput = (r.if_db_not_exists ≡ true) × IfTold target (λ events. IsSome (file_at events r.output))
+ExplainsOutput r target before now (OutputExists size) = (r.if_db_not_exists ≡ false) × IfTold target (λ events. size_of events r.output ≡ Some size)
+ExplainsOutput r target before now TargetFault = Rose before now
+ExplainsOutput r target before now Memory = ⊤
+ExplainsOutput r target before now Done = ⊥
+ExplainsOutput r target before now SkippedReplica = ⊥
+ExplainsOutput r target before now NotBuilt = ⊥
+ExplainsOutput r target before now (Usage usage) = ⊥
+ExplainsOutput r target before now NoReplica = ⊥
+ExplainsOutput r target before now (MissingRange after) = ⊥
+ExplainsOutput r target before now NoMoment = ⊥
+ExplainsOutput r target before now (Damaged name damage) = ⊥
+ExplainsOutput r target before now (PageMissing name number) = ⊥
+ExplainsOutput r target before now StoreFault = ⊥
+ExplainsOutput r target before now SinkFault = ⊥
+
+-- why the replica gives no plan
+abbrev pub ExplainsReading : Request → Told → ℕ → ℕ → Why → Type 0
+ExplainsReading r store before now SkippedReplica = (r.if_replica_exists ≡ true) × IfTold store (λ events. AreListed events [])
+ExplainsReading r store before now NoReplica = (r.if_replica_exists ≡ false) × IfTold store (λ events. AreListed events [])
+ExplainsReading r store before now NoMoment = IfTold store (λ events. IsBefore events r)
+ExplainsReading r store before now (MissingRange after) = IfTold store (λ events. IsMissing events r after)
+ExplainsReading r store before now (Damaged name damage) = IfTold store (λ events. IsBadHeader events r name damage)
+ExplainsReading r store before now StoreFault = Rose before now
+ExplainsReading r store before now Memory = ⊤
+ExplainsReading r store before now Done = ⊥
+ExplainsReading r store before now SkippedOutput = ⊥
+ExplainsReading r store before now NotBuilt = ⊥
+ExplainsReading r store before now (Usage usage) = ⊥
+ExplainsReading r store before now (PageMissing name number) = ⊥
+ExplainsReading r store before now (OutputExists size) = ⊥
+ExplainsReading r store before now TargetFault = ⊥
+ExplainsReading r store before now SinkFault = ⊥
+
+-- why there is no transaction of a moment
+abbrev pub ExplainsMoment : Told → ℕ → ℕ → List FileName → ℤ → Why → Type 0
+ExplainsMoment store before now names moment NoMoment = IfTold store (λ events. IsTooEarly events names moment)
+ExplainsMoment store before now names moment (Damaged name damage) = IfTold store (λ events. IsFirstBadHeader events names name damage)
+ExplainsMoment store before now names moment StoreFault = Rose before now
+ExplainsMoment store before now names moment Memory = ⊤
+ExplainsMoment store before now names moment Done = ⊥
+ExplainsMoment store before now names moment SkippedOutput = ⊥
+ExplainsMoment store before now names moment SkippedReplica = ⊥
+ExplainsMoment store before now names moment NotBuilt = ⊥
+ExplainsMoment store before now names moment (Usage usage) = ⊥
+ExplainsMoment store before now names moment NoReplica = ⊥
+ExplainsMoment store before now names moment (MissingRange after) = ⊥
+ExplainsMoment store before now names moment (PageMissing name number) = ⊥
+ExplainsMoment store before now names moment (OutputExists size) = ⊥
+ExplainsMoment store before now names moment TargetFault = ⊥
+ExplainsMoment store before now names moment SinkFault = ⊥
+
+-- why a restore didn't come so far that it could write
 abbrev pub ExplainsPrepare : Request → Told → ℕ → ℕ → Told → ℕ → ℕ → Why → Type 0
-ExplainsPrepare r store store_before store_now target target_before target_now (OutputExists size) = IfTold target (λ events. size_of events r.output ≡ Some size)
-ExplainsPrepare r store store_before store_now target target_before target_now (MissingRange after) =
-    LacksOutput target r × (after ≡ 0) × IfTold store (λ events. file_at events (whole_path r.txid) ≡ None)
-ExplainsPrepare r store store_before store_now target target_before target_now (Damaged name damage) =
-    LacksOutput target r × IsWholeName name r.txid × (damage ≡ File NotFile) × IfTold store (λ events. IsDamaged events r.txid)
-ExplainsPrepare r store store_before store_now target target_before target_now StoreFault = LacksOutput target r × Rose store_before store_now
-ExplainsPrepare r store store_before store_now target target_before target_now TargetFault = Rose target_before target_now
-ExplainsPrepare r store store_before store_now target target_before target_now Memory = ⊤
-ExplainsPrepare r store store_before store_now target target_before target_now Done = ⊥
-ExplainsPrepare r store store_before store_now target target_before target_now NotBuilt = ⊥
-ExplainsPrepare r store store_before store_now target target_before target_now SinkFault = ⊥
+ExplainsPrepare r store store_before store_now target target_before target_now why =
+    ExplainsOutput r target target_before target_now why ⊎ (LacksOutput target r × ExplainsReading r store store_before store_now why)

@@ -2,33 +2,34 @@
 
 ghost use Rattle.std.specs.Prelude.{◌≡◌};
 ghost use Rattle.litestream_core.specs.Outcome.{status_of};
-ghost use Rattle.litestream_core.specs.declared.outcome.Why.TheVariants.{Memory as want};
 
-use ltx_format::LtxFault;
-use replica_store::FileName;
-use std::alloc::AllocError;
-use thiserror::Error;
-
-/// What is wrong with a file of a replica.
-#[derive(Clone, Copy, Debug, PartialEq, Eq, Error)]
-pub enum Damage {
-    /// The file's bytes are not those of a file under its name.
-    #[error(transparent)]
-    File(LtxFault),
-}
+use ls_words::Usage;
+use replica_store::{Damage, FileName};
 
 /// Why a command ended.
 #[derive(Clone, Copy, Debug, PartialEq, Eq)]
 pub enum Why {
     /// The command did its work.
     Done,
-    /// The words are of no form that is built.
+    /// The output is there, and the words say that it is left as it is.
+    SkippedOutput,
+    /// The replica has no file, and the words say that this is no fault.
+    SkippedReplica,
+    /// The command isn't built yet.
     NotBuilt,
+    /// The words aren't of the grammar.
+    Usage(Usage),
+    /// The replica has no file.
+    NoReplica,
     /// No chain of files leads to the asked transaction; the greatest transaction before it to which one
     /// leads, 0 where there is none.
     MissingRange(u64),
-    /// A file that the command read isn't a file of the format under its name.
+    /// No transaction is retained at or before the asked moment.
+    NoMoment,
+    /// The first file that is damaged of those that the command reads, and what is wrong with it.
     Damaged(FileName, Damage),
+    /// The first file that doesn't fit what those before it make, and the first page that is missing there.
+    PageMissing(FileName, u32),
     /// The output is there already, with this many bytes.
     OutputExists(u64),
     /// The replica's disk failed.
@@ -41,24 +42,17 @@ pub enum Why {
     Memory,
 }
 
-impl From<AllocError> for Why {
-    ghost from_gives = { λ _ why. why ≡ want };
-
-    fn from(_: AllocError) -> Why {
-        Why::Memory
-    }
-}
-
 impl Why {
-    /// The exit status: 0 where the command did its work, 1 where the inputs refuse it, 2 for the words, 3
-    /// for a fault of the outside, 4 for want of memory.
+    /// The exit status: 0 where the command did its work or was to do none, 1 where the inputs refuse it, 2
+    /// for the words, 3 for a fault of the outside, 4 for want of memory.
     pub fn status(&self) -> u8
         ensures { result ≡ status_of self.now }
     {
         match self {
-            Why::Done => 0,
-            Why::MissingRange(_) | Why::Damaged(_, _) | Why::OutputExists(_) => 1,
-            Why::NotBuilt => 2,
+            Why::Done | Why::SkippedOutput | Why::SkippedReplica => 0,
+            Why::NoReplica | Why::MissingRange(_) | Why::NoMoment => 1,
+            Why::Damaged(_, _) | Why::PageMissing(_, _) | Why::OutputExists(_) => 1,
+            Why::NotBuilt | Why::Usage(_) => 2,
             Why::StoreFault | Why::TargetFault | Why::SinkFault => 3,
             Why::Memory => 4,
         }

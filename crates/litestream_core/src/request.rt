@@ -1,23 +1,27 @@
-//! What the words ask for.
+//! What a command line asks of a restore.
 
-ghost use Rattle.std.specs.Prelude.{◌≡◌, ◌==◌, option_map, slice_index};
-ghost use Rattle.litestream_core.specs.Request.{request_of, six_of, is_restore, is_replica, names_scheme, is_file_name, output_of, placed, cut_at_last_slash};
+ghost use Rattle.std.specs.Prelude.{◌≡◌, option_map};
+ghost use Rattle.ls_words.specs.Path.{placed, cut_at_last_slash};
+ghost use Rattle.litestream_core.specs.Request.{request_in};
 ghost use Rattle.litestream_core.specs.RequestView.{as_request, as_output};
 
-use crate::words::Words;
-use ls_base::Txid;
+use ls_words::{Command, Target};
 
-/// A restore of one transaction.
+/// A restore.
 #[derive(Clone, Copy, Debug)]
 pub struct Request<'w> {
     /// The folder of the output.
     pub folder: &'w str,
     /// The output's name in that folder.
     pub output: &'w str,
-    /// The transaction to restore.
-    pub txid: Txid,
     /// The folder of the replica.
     pub replica: &'w str,
+    /// Which transaction to restore.
+    pub target: Target,
+    /// Whether an output that exists is left as it is.
+    pub if_db_not_exists: bool,
+    /// Whether a replica without files is no fault.
+    pub if_replica_exists: bool,
 }
 
 /// The path cut at its last `/`: the folder, and the name in it.
@@ -33,90 +37,27 @@ fn cut(path: &str) -> (&str, &str)
     (folder, name)
 }
 
-#[tactic(auto, unfolding(crate::specs::Request::is_file_name))]
-fn is_file_name(name: &str) -> bool
-    ensures { result ≡ is_file_name name.now }
+/// The restore that the command is. `None` exactly where it is another command.
+pub fn request_in(command: &Command) -> Option<Request<'_>>
+    ensures { option_map as_request result ≡ request_in command.now }
 {
-    !(name.is_empty() || name == "." || name == "..")
-}
-
-/// Where the path leads. `None` exactly where its last part is no name of a file.
-#[tactic(auto, unfolding(crate::specs::Request::output_of))]
-fn output(path: &str) -> Option<(&str, &str)>
-    ensures { option_map as_output result ≡ output_of path.now }
-{
-    let (folder, name) = cut(path);
-    if !is_file_name(name) {
+    let Command::Restore {
+        output,
+        replica,
+        target,
+        if_db_not_exists,
+        if_replica_exists,
+    } = command
+    else {
         return None;
-    }
-    Some((folder, name))
-}
-
-fn begins_with_dash(word: &str) -> bool
-    ensures { result ≡ (slice_index word.now 0 == 45) }
-{
-    word.starts_with('-')
-}
-
-fn names_scheme(word: &str) -> bool
-    ensures { result ≡ names_scheme word.now }
-{
-    word.contains("://")
-}
-
-/// Whether the word can be the folder of a replica.
-#[tactic(auto, unfolding(crate::specs::Request::is_replica))]
-fn is_replica(word: &str) -> bool
-    ensures { result ≡ is_replica word.now }
-{
-    !word.is_empty() && !begins_with_dash(word) && !names_scheme(word)
-}
-
-#[tactic(auto, unfolding(crate::specs::Request::is_restore))]
-fn is_restore(command: &str, output_flag: &str, txid_flag: &str) -> bool
-    ensures { result ≡ is_restore command.now output_flag.now txid_flag.now }
-{
-    command == "restore" && output_flag == "-o" && txid_flag == "-txid"
-}
-
-#[tactic(auto, unfolding(crate::specs::Request::six_of))]
-fn of_six<'w>(
-    command: &'w str,
-    output_flag: &'w str,
-    path: &'w str,
-    txid_flag: &'w str,
-    digits: &'w str,
-    replica: &'w str,
-) -> Option<Request<'w>>
-    ensures { option_map as_request result ≡ six_of command.now output_flag.now path.now txid_flag.now digits.now replica.now }
-{
-    if !(is_restore(command, output_flag, txid_flag) && is_replica(replica)) {
-        return None;
-    }
-    let (folder, output) = output(path)?;
-    let txid = Txid::from_hex(digits)?;
+    };
+    let (folder, output) = cut(output.as_str());
     Some(Request {
         folder,
         output,
-        txid,
-        replica,
+        replica: replica.as_str(),
+        target: *target,
+        if_db_not_exists: *if_db_not_exists,
+        if_replica_exists: *if_replica_exists,
     })
-}
-
-/// What the words ask for. `None` exactly where they are not of the form
-/// `restore -o OUT -txid T REPLICA`.
-pub fn read_request(words: &Words) -> Option<Request<'_>>
-    ensures { option_map as_request result ≡ request_of words.now }
-{
-    if words.len() != 6 {
-        return None;
-    }
-    of_six(
-        words.get(0)?,
-        words.get(1)?,
-        words.get(2)?,
-        words.get(3)?,
-        words.get(4)?,
-        words.get(5)?,
-    )
 }

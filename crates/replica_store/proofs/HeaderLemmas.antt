@@ -55,6 +55,13 @@ pub record AreDatedTo (events : List Event) (names : List FileName) (at : ℕ) (
   pub names_are : names_of dated ≡ take at names
   pub moments : HaveMoments events dated
 
+pub names_to : (names : List FileName) (at : ℕ) (dated after : List Dated) (name : FileName) (moment : ℕ) → at < length names → name ≡ get_or names at name → names_of dated ≡ take at names
+    → after ≡ dated ++ record { name = name; moment = moment } ∷ [] → names_of after ≡ take (at + 1) names
+names_to names at dated after name moment below is so_far after-is =
+    let d : Dated = record { name = name; moment = moment } in
+    let next : at + 1 ≡ suc at = omega arith in
+    ap names_of after-is ∙ names_more dated d ∙ ap (λ ns. ns ++ name ∷ []) so_far ∙ ap (λ n. take at names ++ n ∷ []) is ∙ sym (take-suc names at name below) ∙ ap (λ k. take k names) (sym next)
+
 pub dated_more : (events : List Event) (names : List FileName) (at : ℕ) (dated after : List Dated) (name : FileName) (h : LtxHeader) → at < length names → name ≡ get_or names at name
     → AreDatedTo events names at dated → IsHeaderUnder events name h → after ≡ dated ++ record { name = name; moment = h.moment } ∷ [] → AreDatedTo events names (at + 1) after
 dated_more events names at dated after name h below is so_far header after-is =

@@ -2,6 +2,7 @@
 
 ghost use Rattle.std.specs.Prelude.{◌≡◌, IfOk, IfErr};
 ghost use Rattle.crash_disk.specs.Told.{IfTold};
+ghost use Rattle.replica_store.specs.Chain.{names_of};
 ghost use Rattle.replica_store.specs.Dating.{IsHeaderUnder, AreDated, ExplainsHeader, ExplainsDated};
 ghost use Rattle.replica_store.specs.StoreError.{StoreHasCause};
 
@@ -43,6 +44,7 @@ pub fn dated<S: Disk>(
     names: &[FileName],
 ) -> Result<DatedNames, StoreError>
     ensures value { IfOk result (λ dated. IfTold (S.told store.old) (λ events. AreDated events names.now dated)) }
+    ensures names { IfOk result (λ dated. names_of dated ≡ names.now) }
     ensures explained { IfErr result (ExplainsDated (S.told store.old) names.now) }
     ensures unchanged { S.told store.new ≡ S.told store.old }
     ensures same_folder { S.folder store.new ≡ S.folder store.old }

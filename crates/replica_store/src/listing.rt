@@ -2,6 +2,7 @@
 
 ghost use Rattle.std.specs.Prelude.{◌≡◌, IfOk, IfErr};
 ghost use Rattle.crash_disk.specs.Told.{IfTold};
+ghost use Rattle.replica_store.specs.Chain.{IsListOrdered};
 ghost use Rattle.replica_store.specs.Listing.{AreListed, AreReadOf};
 ghost use Rattle.replica_store.specs.StoreError.{StoreHasCause, BlamesNoFile};
 
@@ -33,6 +34,7 @@ fn read_names(alloc: Global, texts: &NameList) -> Result<Vec<FileName>, Memory>
 /// `Memory` for want of memory; nothing else.
 pub fn list<S: Disk>(alloc: Global, store: &mut S) -> Result<FileNames, StoreError>
     ensures value { IfOk result (λ names. IfTold (S.told store.old) (λ events. AreListed events names)) }
+    ensures ordered { IfOk result (λ names. IsListOrdered names) }
     ensures blames_no_file { IfErr result BlamesNoFile }
     ensures unchanged { S.told store.new ≡ S.told store.old }
     ensures same_folder { S.folder store.new ≡ S.folder store.old }

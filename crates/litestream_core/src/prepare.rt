@@ -1,0 +1,120 @@
+//! What a restore reads before it writes.
+
+ghost use Rattle.std.specs.Prelude.{◌≡◌, ◌≢◌, ◌≤◌, [], IfOk, IfErr, OnOk};
+ghost use Rattle.crash_disk.specs.Told.{IfTold};
+ghost use Rattle.replica_store.specs.Chain.{IsListOrdered};
+ghost use Rattle.litestream_core.specs.declared.outcome.Why.TheVariants.{StoreFault, TargetFault};
+ghost use Rattle.litestream_core.specs.Asked.{AreNames, IsPlan};
+ghost use Rattle.litestream_core.specs.Command.{LacksOutput};
+ghost use Rattle.litestream_core.specs.Preparing.{IsRefusalOf, ExplainsOutput, ExplainsReading, ExplainsPrepare};
+ghost use Rattle.litestream_core.specs.RequestView.{as_request};
+
+use crate::asked::{asked, refusal};
+use crate::outcome::Why;
+use crate::request::Request;
+use crash_disk::{Disk, NamesFault};
+use ls_base::Txid;
+use replica_store::{FileNames, list};
+use restore_plan::{PlanFault, plan};
+use std::alloc::Global;
+
+/// The files that a restore applies, and the transaction to which they lead.
+#[derive(Drop)]
+pub struct Prepared {
+    pub plan: FileNames,
+    pub txid: Txid,
+}
+
+fn store_refusal(fault: NamesFault) -> Why
+    ensures { IsRefusalOf StoreFault fault result }
+{
+    match fault {
+        NamesFault::Disk(_) => Why::StoreFault,
+        NamesFault::Memory => Why::Memory,
+    }
+}
+
+fn target_refusal(fault: NamesFault) -> Why
+    ensures { IsRefusalOf TargetFault fault result }
+{
+    match fault {
+        NamesFault::Disk(_) => Why::TargetFault,
+        NamesFault::Memory => Why::Memory,
+    }
+}
+
+/// Looks whether the output's name is free.
+fn find_output<T: Disk>(alloc: Global, request: &Request<'_>, target: &mut T) -> Result<(), Why>
+    ensures absent { OnOk result (LacksOutput (T.told target.old) (as_request request.now)) }
+    ensures explained { IfErr result (ExplainsOutput (as_request request.now) (T.told target.old) (T.fault_count target.old) (T.fault_count target.new)) }
+    ensures unchanged { T.told target.new ≡ T.told target.old }
+    ensures later { T.fault_count target.old ≤ T.fault_count target.new }
+{
+    target
+        .attach(alloc, request.folder)
+        .map_err(target_refusal)?;
+    let Some(size) = target.size(request.output).map_err(|_| Why::TargetFault)? else {
+        return Ok(());
+    };
+    if request.if_db_not_exists {
+        return Err(Why::SkippedOutput);
+    }
+    Err(Why::OutputExists(size))
+}
+
+/// The names of the replica, of which there are some.
+fn find_names<S: Disk>(alloc: Global, request: &Request<'_>, store: &mut S) -> Result<FileNames, Why>
+    ensures some { IfOk result (λ names. names ≢ []) }
+    ensures in_order { IfOk result (λ names. IsListOrdered names) }
+    ensures names { IfOk result (λ names. IfTold (S.told store.old) (λ events. AreNames events names)) }
+    ensures explained { IfErr result (ExplainsReading (as_request request.now) (S.told store.old) (S.fault_count store.old) (S.fault_count store.new)) }
+    ensures unchanged { S.told store.new ≡ S.told store.old }
+    ensures later { S.fault_count store.old ≤ S.fault_count store.new }
+{
+    store.attach(alloc, request.replica).map_err(store_refusal)?;
+    let names = list(alloc, store).map_err(refusal)?;
+    if !names.as_slice().is_empty() {
+        return Ok(names);
+    }
+    if request.if_replica_exists {
+        return Err(Why::SkippedReplica);
+    }
+    Err(Why::NoReplica)
+}
+
+/// The plan of the request.
+fn find_plan<S: Disk>(alloc: Global, request: &Request<'_>, store: &mut S) -> Result<Prepared, Why>
+    ensures some { IfOk result (λ ready. ready.plan ≢ []) }
+    ensures plan { IfOk result (λ ready. IfTold (S.told store.old) (λ events. IsPlan events (as_request request.now) ready.txid ready.plan)) }
+    ensures explained { IfErr result (ExplainsReading (as_request request.now) (S.told store.old) (S.fault_count store.old) (S.fault_count store.new)) }
+    ensures unchanged { S.told store.new ≡ S.told store.old }
+    ensures later { S.fault_count store.old ≤ S.fault_count store.new }
+{
+    let names = find_names(alloc, request, store)?;
+    let txid = asked(alloc, request, store, names.as_slice())?;
+    match plan(alloc, names.as_slice(), txid) {
+        Ok(plan) => Ok(Prepared { plan, txid }),
+        Err(PlanFault::MissingRange { after }) => Err(Why::MissingRange(after)),
+        Err(PlanFault::Memory) => Err(Why::Memory),
+    }
+}
+
+/// Reads what a restore needs to know before it writes. Nothing is changed.
+pub fn prepare<S: Disk, T: Disk>(
+    alloc: Global,
+    request: &Request<'_>,
+    store: &mut S,
+    target: &mut T,
+) -> Result<Prepared, Why>
+    ensures absent { IfOk result (λ _. LacksOutput (T.told target.old) (as_request request.now)) }
+    ensures some { IfOk result (λ ready. ready.plan ≢ []) }
+    ensures plan { IfOk result (λ ready. IfTold (S.told store.old) (λ events. IsPlan events (as_request request.now) ready.txid ready.plan)) }
+    ensures explained { IfErr result (ExplainsPrepare (as_request request.now) (S.told store.old) (S.fault_count store.old) (S.fault_count store.new) (T.told target.old) (T.fault_count target.old) (T.fault_count target.new)) }
+    ensures store_unchanged { S.told store.new ≡ S.told store.old }
+    ensures target_unchanged { T.told target.new ≡ T.told target.old }
+    ensures store_later { S.fault_count store.old ≤ S.fault_count store.new }
+    ensures target_later { T.fault_count target.old ≤ T.fault_count target.new }
+{
+    find_output(alloc, request, target)?;
+    find_plan(alloc, request, store)
+}
