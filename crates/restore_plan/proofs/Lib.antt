@@ -2,3 +2,4 @@ pub mod ChainLemmas
 pub mod MomentLemmas
 pub mod OrderLemmas
 pub mod RunLemmas
+mod StandardFacts
