@@ -16,7 +16,7 @@ use Rattle.ltx_format.specs.declared.fault.LtxFault.TheVariants.{BadOrder}
 use Rattle.ltx_format.specs.declared.file.LtxFile.{LtxFile}
 use Rattle.ltx_format.specs.declared.header.LtxHeader.{LtxHeader}
 use Rattle.ltx_format.specs.LtxFormat.{IsHeader, IsLtxFile, header_bytes}
-use Rattle.ltx_format.specs.FirstFault.{number, page_size, commit, min_txid, header_fault, fault_from, first_fault, ExplainsDecode}
+use Rattle.ltx_format.specs.FirstFault.{number, page_size, commit, min_txid, header_fault, fault_from, first_fault, TellsFirstFault}
 use Rattle.ltx_format.specs.Reading.{◌>>=◌, where_true, passes, header_at, blocks_at, end_at, is_whole, file_at, ReadsInMemory, parts}
 use Rattle.ltx_format.proofs.TestSteps.{fault_of}
 use Rattle.ltx_format.proofs.FieldLaws.{AreBytes, BeginsWith, numbers32, numbers64}
@@ -108,7 +108,7 @@ pub file_fault : (bytes : List ℕ) → AreBytes bytes → fault_of (file_at byt
 unfolding file_at first_fault
 file_fault bytes small = by_header bytes (header_at bytes) small refl
 
-pub explained : (bytes : List ℕ) (r : Result LtxFile DecodeFault) → AreBytes bytes → ReadsInMemory parts r (file_at bytes) → IfErr r (λ e. ExplainsDecode bytes e)
+pub explained : (bytes : List ℕ) (r : Result LtxFile DecodeFault) → AreBytes bytes → ReadsInMemory parts r (file_at bytes) → IfErr r (λ e. TellsFirstFault bytes e)
 explained bytes (Ok file) small reads = tt
 explained bytes (Err (causes.Fault fault)) small reads = sym (file_fault bytes small) ∙ ap fault_of reads
 explained bytes (Err causes.Memory) small reads = tt

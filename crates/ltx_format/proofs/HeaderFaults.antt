@@ -42,8 +42,8 @@ module _ {B : Type 0} (bytes : List ℕ) (next : Place × List ℕ → Result B 
   wal_fault size =
       rw (number_here w64 56 bytes (omega (arith, long)), number_here w32 64 bytes (omega (arith, long)), number_here w32 68 bytes (omega (arith, long)), behind_here w64 72 bytes 0 BadReserved (omega (arith, long)))
       (node_first node (are_frames size (number w64 56 bytes)) (drop 80 bytes) _ next tests (
-        rw (number_here w32 80 bytes (omega (arith, long)), number_here w32 84 bytes (omega (arith, long)))
-        (step_then (are_frames size (number w64 56 bytes)) BadReserved _ next tests (λ are. later _))))
+      rw (number_here w32 80 bytes (omega (arith, long)), number_here w32 84 bytes (omega (arith, long)))
+      (step_then (are_frames size (number w64 56 bytes)) BadReserved _ next tests (λ are. later _))))
 
   abbrev sum_at : List ℕ → Result (Place × List ℕ) LtxFault
   sum_at rest = number_at w64 rest >>= λ sum. where_true (leb (2 ^ 63) sum.0) BadReserved (Rest sum.0, sum.1)
@@ -54,7 +54,7 @@ module _ {B : Type 0} (bytes : List ℕ) (next : Place × List ℕ → Result B 
       rw (behind_here w64 56 bytes 0 BadReserved (omega (arith, long)))
       (three_first (eqb (number w64 56 bytes) 0) (eqb (number w64 64 bytes) 0) node (leb (2 ^ 63) (number w64 80 bytes)) (drop 64 bytes) (drop 72 bytes) (drop 80 bytes) (behind w64 0 BadReserved) (behind w64 0 BadReserved) sum_at next tests
       (behind_here w64 64 bytes 0 BadReserved (omega (arith, long))) (behind_here w64 72 bytes 0 BadReserved (omega (arith, long))) (
-        rw (number_here w64 80 bytes (omega (arith, long))) (step_then (leb (2 ^ 63) (number w64 80 bytes)) BadReserved _ next tests (λ top. later _))))
+      rw (number_here w64 80 bytes (omega (arith, long))) (step_then (leb (2 ^ 63) (number w64 80 bytes)) BadReserved _ next tests (λ top. later _))))
 
   place_fault : fault_of (place_at (page_size bytes) (drop 48 bytes) >>= next) ≡ first_failed ((is_in_log bytes || is_at_rest bytes, BadReserved) ∷ (node, BadReserved) ∷ tests)
   unfolding place_at

@@ -41,8 +41,8 @@ module _ (size commit : ℕ) where
             rw (le-leb block.0 (n + 1) (omega arith), le-leb block.0 n (omega arith)) (ap (λ (rest : Blocks). block ∷ rest) (one_more n block.0 blocks page are.1 later))
       ]
     where
-    same_page : (page other : List ℕ) → ◌≡◌ {A = Option (List ℕ)} (Some page) (Some other) → page ≡ other
-    same_page page other e = cc
+      same_page : (page other : List ℕ) → ◌≡◌ {A = Option (List ℕ)} (Some page) (Some other) → page ≡ other
+      same_page page other e = cc
 
   no_more : (n last : ℕ) (blocks : Blocks) → AreBlocks size commit last blocks → find nat_cmp (n + 1) blocks ≡ None → up_to (n + 1) blocks ≡ up_to n blocks
   no_more n last [] are e = refl
@@ -57,8 +57,8 @@ module _ (size commit : ℕ) where
             ]
       ]
     where
-    not_none : (page : List ℕ) → ◌≡◌ {A = Option (List ℕ)} (Some page) None → ⊥
-    not_none page e = absurd cc
+      not_none : (page : List ℕ) → ◌≡◌ {A = Option (List ℕ)} (Some page) None → ⊥
+      not_none page e = absurd cc
 
 -- ---- the bytes that are put
 

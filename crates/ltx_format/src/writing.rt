@@ -19,7 +19,7 @@ const END_BYTES: usize = 14;
 pub fn encode(alloc: Global, file: &LtxFile) -> Result<Bytes, Memory>
     requires header { IsHeader file.now.header }
     requires pages { ArePages file.now.header file.now.pages }
-    ensures { IfOk result (λ bytes. IsLtxFile bytes file.now.header (change_of file.now)) }
+    ensures spelled { IfOk result (λ bytes. IsLtxFile bytes file.now.header (change_of file.now)) }
 {
     let mut out = header_of(alloc, &file.header)?;
     put_pages(&mut out, &file.header, &file.pages)?;
@@ -55,7 +55,10 @@ fn put_log(out: &mut Bytes, place: Place) -> Result<(), Memory>
     ensures { OnOk result (out.new ≡ out.old ++ log_fields place) }
 {
     let Place::Wal {
-        salt1, salt2, end, ..
+        salt1,
+        salt2,
+        end,
+        ..
     } = place
     else {
         return out.extend(&[0; 24]);
