@@ -73,16 +73,16 @@ fn feed_all(scan: &mut Scan, bytes: &[u8]) -> u64
 }
 
 /// The last mark of the log, fed in pieces of this length.
-fn last_in_pieces(alloc: Global, log: &[u8], length: usize) -> Result<Option<Mark>, Fail>
+fn last_in_pieces(alloc: Global, log: &[u8], piece: usize) -> Result<Option<Mark>, Fail>
     requires log { 32 ≤ length log.now }
-    requires some { 1 ≤ length }
-    requires small { length + length log.now < 2 ^ 63 }
+    requires some { 1 ≤ piece }
+    requires small { piece + length log.now < 2 ^ 63 }
 {
     let head = read_wal_header(log).ok().ok_or("the header is accepted")?;
     let mut scan = Scan::begin(alloc, head)?;
     let mut at = 32;
     while at < log.len() {
-        let end = (at + length).min(log.len());
+        let end = (at + piece).min(log.len());
         feed_all(&mut scan, &log[at..end]);
         at = end;
     }
