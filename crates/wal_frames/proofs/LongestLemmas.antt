@@ -1,12 +1,11 @@
 -- The valid prefix is the longest list of valid frames, and the last mark the last one.
-use Rattle.std.proofs.Common.{◌≡◌, ◌∙◌, ℕ, ◌+◌, ◌≤◌, Bool, true, false, cond, eqb, List, [], ◌∷◌, ◌++◌, length, Option, Some, None, sym, ap, subst, refl, inl, inr, ◌⊎◌, arith, length-append, append_assoc, append-nil}
-use Rattle.std.specs.Option.{option_or}
+use Rattle.std.proofs.Common.{◌≡◌, ◌∙◌, ℕ, Bool, true, false, eqb, List, [], ◌∷◌, ◌++◌, length, Option, Some, None, sym, ap, subst, refl, inl, inr, ◌⊎◌, arith, length-append, append_assoc, append-nil}
 use Rattle.std.proofs.lemmas.Bool.{eqb-true, eqb-false}
 use Rattle.ls_base.specs.declared.mark.Mark.{Mark}
 use Rattle.wal_frames.specs.declared.header.WalHeader.{WalHeader}
 use Rattle.wal_frames.specs.WalFrame.{commit_size}
-use Rattle.wal_frames.specs.ValidPrefix.{fault_behind, valid_behind, stop_behind, mark_of, mark_after, last_mark_behind, last_mark}
-use Rattle.wal_frames.specs.LongestPrefix.{AreValid, IsLongest, NoneCommits, IsLastMark, IsLastMarkOrNone}
+use Rattle.wal_frames.specs.ValidPrefix.{valid_behind, stop_behind, mark_of, mark_after, last_mark_behind, last_mark}
+use Rattle.wal_frames.specs.LongestPrefix.{AreValid, IsLongest, NoneCommits, IsLastMarkOrNone}
 use Rattle.wal_frames.proofs.PrefixLemmas.{valid-more, valid-front, stop-valid, fault-none, stop-rest}
 
 module _ (front : List ℕ) (h : WalHeader) where
