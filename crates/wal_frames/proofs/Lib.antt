@@ -9,3 +9,4 @@ mod CheckedLemmas
 mod TakenLemmas
 mod BackLemmas
 mod StandardFacts
+mod LongestLemmas

@@ -59,6 +59,10 @@ no_fault : (stop fault : Option NotValid) → option_or fault stop ≡ None → 
 no_fault stop None e = refl
 no_fault stop (Some x) e = absurd cc
 
+rest_none : (stop fault : Option NotValid) → option_or fault stop ≡ None → stop ≡ None
+rest_none stop None e = e
+rest_none stop (Some x) e = absurd cc
+
 goes_on : (stop : Option NotValid) (frame : List ℕ) (left right : List (List ℕ)) (fault : Option NotValid) → option_or fault stop ≡ None → (stop ≡ None → left ≡ right) → if_valid fault frame left ≡ frame ∷ right
 goes_on stop frame left right None e next = ap (λ (frames : List (List ℕ)). frame ∷ frames) (next e)
 goes_on stop frame left right (Some x) e next = absurd cc
@@ -135,6 +139,9 @@ module _ (front : List ℕ) (h : WalHeader) where
 
   pub fault-none : (before : List (List ℕ)) (frame : List ℕ) (frames : List (List ℕ)) → stop_behind front h before (frame ∷ frames) ≡ None → fault_behind front h before frame ≡ None
   fault-none before frame frames none = no_fault (stop_behind front h (before ++ frame ∷ []) frames) (fault_behind front h before frame) none
+
+  pub stop-rest : (before : List (List ℕ)) (frame : List ℕ) (frames : List (List ℕ)) → stop_behind front h before (frame ∷ frames) ≡ None → stop_behind front h (before ++ frame ∷ []) frames ≡ None
+  stop-rest before frame frames none = rest_none (stop_behind front h (before ++ frame ∷ []) frames) (fault_behind front h before frame) none
 
   pub last-more : (before : List (List ℕ)) (last : Option Mark) (frames others : List (List ℕ)) → last_mark_behind h before last (frames ++ others) ≡ last_mark_behind h (before ++ frames) (last_mark_behind h before last frames) others
   last-more before last [] others = rw (append-nil before) refl

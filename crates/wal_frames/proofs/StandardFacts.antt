@@ -1,5 +1,5 @@
 -- The definitions at values from outside.
-use Rattle.std.proofs.Common.{◌≡◌, ℕ, List, [], ◌∷◌, ◌++◌, length, replicate, Option, Some, None, Ok, refl}
+use Rattle.std.proofs.Common.{◌≡◌, ℕ, List, [], ◌∷◌, ◌++◌, length, replicate, Some, None, Ok, refl}
 use Rattle.ls_sums.specs.declared.order.Order.TheVariants.{Big}
 use Rattle.wal_frames.specs.declared.header.WalHeader.{WalHeader}
 use Rattle.wal_frames.specs.declared.fault.NotValid.TheVariants.{Sum}

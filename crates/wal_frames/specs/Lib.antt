@@ -4,3 +4,4 @@ pub mod ValidPrefix
 pub mod Scanned
 pub mod PartState
 pub mod View
+pub mod LongestPrefix

@@ -14,6 +14,7 @@ mod fed;
 mod field;
 mod frame;
 mod header;
+mod law;
 mod part;
 mod scan;
 #[cfg(test)]
@@ -23,4 +24,5 @@ pub use fault::{NotValid, WalHeaderFault};
 pub use fed::Fed;
 pub use frame::{Frame, check_frame, write_frame};
 pub use header::{WalHeader, read_wal_header, write_wal_header};
+pub use law::prefix_laws;
 pub use scan::Scan;

@@ -5,8 +5,8 @@ ghost use Rattle.std.specs.Prelude.{◌≡◌, ◌+◌, ◌<◌, ◌≤◌, ◌^
 ghost use Rattle.wal_frames.specs.WalFormat.{HasSums};
 
 use crate::{
-    Fed, Frame, NotValid, Scan, WalHeader, WalHeaderFault, check_frame, read_wal_header, write_frame,
-    write_wal_header,
+    Fed, Frame, NotValid, Scan, WalHeader, WalHeaderFault, check_frame, read_wal_header,
+    write_frame, write_wal_header,
 };
 use ls_base::{Mark, PageSize};
 use ls_sums::{Order, WalSum};
@@ -15,8 +15,8 @@ use std::test::Fail;
 
 /// The header of a log with pages of 512 bytes and salts 1 and 2.
 const HEADER: [u8; 32] = [
-    0x37, 0x7f, 0x06, 0x83, 0x00, 0x2d, 0xe2, 0x18, 0, 0, 2, 0, 0, 0, 0, 0, 0, 0, 0, 1, 0, 0, 0, 2, 0x16, 0x04,
-    0xca, 0xd8, 0xbc, 0xdd, 0xa4, 0x93,
+    0x37, 0x7f, 0x06, 0x83, 0x00, 0x2d, 0xe2, 0x18, 0, 0, 2, 0, 0, 0, 0, 0, 0, 0, 0, 1, 0, 0, 0, 2,
+    0x16, 0x04, 0xca, 0xd8, 0xbc, 0xdd, 0xa4, 0x93,
 ];
 
 /// The length of a frame with a page of 512 bytes.
@@ -42,7 +42,14 @@ fn five_frames(head: &WalHeader) -> [u8; LOG_BYTES]
     for k in 0..5 {
         let (number, commit) = FRAMES[k];
         let start = 32 + FRAME_BYTES * k;
-        sums = write_frame(head, sums, number, commit, &page(k), &mut log[start..start + FRAME_BYTES]);
+        sums = write_frame(
+            head,
+            sums,
+            number,
+            commit,
+            &page(k),
+            &mut log[start..start + FRAME_BYTES],
+        );
     }
     log
 }
@@ -73,16 +80,16 @@ fn feed_all(scan: &mut Scan, bytes: &[u8]) -> u64
 }
 
 /// The last mark of the log, fed in pieces of this length.
-fn last_in_pieces(alloc: Global, log: &[u8], length: usize) -> Result<Option<Mark>, Fail>
+fn last_in_pieces(alloc: Global, log: &[u8], piece: usize) -> Result<Option<Mark>, Fail>
     requires log { 32 ≤ length log.now }
-    requires some { 1 ≤ length }
-    requires small { length + length log.now < 2 ^ 63 }
+    requires some { 1 ≤ piece }
+    requires small { piece + length log.now < 2 ^ 63 }
 {
     let head = read_wal_header(log).ok().ok_or("the header is accepted")?;
     let mut scan = Scan::begin(alloc, head)?;
     let mut at = 32;
     while at < log.len() {
-        let end = (at + length).min(log.len());
+        let end = (at + piece).min(log.len());
         feed_all(&mut scan, &log[at..end]);
         at = end;
     }
@@ -180,7 +187,11 @@ fn a_flipped_byte_ends_the_prefix_before_its_frame(rt: HostRuntime) -> Result<()
             assert!(rt; read_wal_header(&flipped).is_err(), "at {at}");
         } else {
             let mark = if at < 1104 { None } else { Some(FIRST) };
-            assert_eq!(rt; last_in_pieces(rt.alloc(), &flipped, 4096)?, mark, "at {at}");
+            assert_eq!(rt;
+                last_in_pieces(rt.alloc(), &flipped, 4096)?,
+                mark,
+                "at {at}"
+            );
         }
     }
     Ok(())
@@ -235,7 +246,11 @@ fn a_frame_that_is_refused(rt: HostRuntime) -> Result<(), Fail> {
         let mut frame = [0; FRAME_BYTES];
         frame.copy_from_slice(&log[32..568]);
         frame[at] = byte;
-        assert_eq!(rt; check_frame(&head, sums, &frame), Frame::Not(fault), "at {at}");
+        assert_eq!(rt;
+            check_frame(&head, sums, &frame),
+            Frame::Not(fault),
+            "at {at}"
+        );
     }
     Ok(())
 }

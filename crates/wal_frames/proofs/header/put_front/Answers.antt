@@ -1,4 +1,4 @@
-use Rattle.std.proofs.Common.{◌≡◌, ◌∙◌, take, refl}
+use Rattle.std.proofs.Common.{refl}
 use Rattle.wal_frames.specs.WalFormat.{header_front}
 use Rattle.wal_frames.proofs.header.put_front.Goals as goal
 

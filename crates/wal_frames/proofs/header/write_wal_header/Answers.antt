@@ -1,4 +1,4 @@
-use Rattle.std.proofs.Common.{◌≡◌, ◌∙◌, ℕ, List, ◌++◌, length, take, ap, sym, refl, append_assoc, arith}
+use Rattle.std.proofs.Common.{◌≡◌, ◌∙◌, length, take, sym, refl, arith}
 use Rattle.std.proofs.Math.Seq.{take-length}
 use Rattle.wal_frames.specs.WalFormat.{header_front, header_bytes}
 use Rattle.wal_frames.proofs.HeaderLemmas.{page_size_fits}

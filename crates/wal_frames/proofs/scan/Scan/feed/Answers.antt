@@ -9,20 +9,26 @@ use Rattle.wal_frames.proofs.scan.Scan.feed.Goals as goal
 
 pub returns-then-is_some : goal.returns-then-is_some
 returns-then-is_some c = record {
-  value = (ap (λ (v : Scanned). v.taken + length c.args.piece.now) c.self.view_is, λ log t.
-      let s = c.self.inside in
-      let old : Scanned = record { head = s.head; taken = s.taken; end = s.end; sums = s.sums; held = s.part.bytes; last = s.last; stopped = s.stopped } in
-      let stop = some_of s.stopped (sym c.is_some.ensures ∙ c.if-is_some.true) in
-      taken_stopped old log (taken_of old c.args.self.now log c.self.view_is t) c.args.piece.now stop.0 stop.1);
+  value = (
+    ap (λ (v : Scanned). v.taken + length c.args.piece.now) c.self.view_is,
+    λ log t.
+        let s = c.self.inside in
+        let old : Scanned = record { head = s.head; taken = s.taken; end = s.end; sums = s.sums; held = s.part.bytes; last = s.last; stopped = s.stopped } in
+        let stop = some_of s.stopped (sym c.is_some.ensures ∙ c.if-is_some.true) in
+        taken_stopped old log (taken_of old c.args.self.now log c.self.view_is t) c.args.piece.now stop.0 stop.1,
+  );
 }
 
 pub returns-then-piece-missing : goal.returns-then-piece-missing
 returns-then-piece-missing c = record {
-  value = (ap (λ (v : Scanned). v.taken + length c.args.piece.now) c.self.view_is, λ log t.
-      let s = c.self.inside in
-      let old : Scanned = record { head = s.head; taken = s.taken; end = s.end; sums = s.sums; held = s.part.bytes; last = s.last; stopped = s.stopped } in
-      let none = none_of s.stopped (sym c.is_some.ensures ∙ c.if-is_some.false) in
-      rw c.push.ensures (taken_part old log (taken_of old c.args.self.now log c.self.view_is t) c.args.piece.now none (omega (arith, c.if-piece-missing.true, c.len.ensures.value, c.get.ensures.value))));
+  value = (
+    ap (λ (v : Scanned). v.taken + length c.args.piece.now) c.self.view_is,
+    λ log t.
+        let s = c.self.inside in
+        let old : Scanned = record { head = s.head; taken = s.taken; end = s.end; sums = s.sums; held = s.part.bytes; last = s.last; stopped = s.stopped } in
+        let none = none_of s.stopped (sym c.is_some.ensures ∙ c.if-is_some.false) in
+        rw c.push.ensures (taken_part old log (taken_of old c.args.self.now log c.self.view_is t) c.args.piece.now none (omega (arith, c.if-piece-missing.true, c.len.ensures.value, c.get.ensures.value))),
+  );
 }
 
 pub returns-in-Valid : goal.returns-in-Valid
@@ -52,25 +58,28 @@ returns-in-Valid c = record {
 
 pub returns-in-Not : goal.returns-in-Not
 returns-in-Not c = record {
-  value = (ap (λ (v : Scanned). v.taken + length c.args.piece.now) c.self.view_is, λ log t.
-      let s = c.self.inside in
-      let old : Scanned = record { head = s.head; taken = s.taken; end = s.end; sums = s.sums; held = s.part.bytes; last = s.last; stopped = s.stopped } in
-      let missing = 24 + c.get.result - c.len.result in
-      let piece = c.args.piece.now in
-      let x = take missing piece in
-      let len : length x ≡ missing = length-take-le missing piece c.if-piece-missing.false in
-      let size : c.get.result ≡ s.head.size = c.get.ensures.value in
-      let none = none_of s.stopped (sym c.is_some.ensures ∙ c.if-is_some.false) in
-      let whole : length s.part.bytes + length x ≡ frame_length s.head = omega (arith, len, size, c.len.ensures.value, c.self.invariant.1, c.self.invariant.0) in
-      let got = taken_not old log (taken_of old c.args.self.now log c.self.view_is t) x c.in-Not.fault none whole (sym c.checked.ensures.value ∙ c.in-Not.is) in
-      let y = drop missing piece in
-      let mid : Scanned = record old { taken = old.taken + length x; held = []; stopped = Some c.in-Not.fault } in
-      let after = taken_stopped mid (log ++ x) got.0 y c.in-Not.fault refl in
-      let whole_piece : x ++ y ≡ piece = take-append-drop missing piece in
-      let joined : (log ++ x) ++ y ≡ log ++ piece = append_assoc log x y ∙ ap (λ (xs : List ℕ). log ++ xs) whole_piece in
-      let lengths : s.taken + length piece ≡ s.taken + length x + length y = omega (arith, length-append x y, ap (λ (xs : List ℕ). length xs) whole_piece) in
-      let final : Scanned = record mid { taken = mid.taken + length y } in (
-        taken_of _ final (log ++ piece) (same_scan _ final refl lengths refl refl (ap (λ p. p.bytes) c.checked.ensures.held) refl refl) (subst (λ (l : List ℕ). HasTaken final l) joined after.0),
-        ap valid_frames (sym joined) ∙ after.1 ∙ got.1,
-      ));
+  value = (
+    ap (λ (v : Scanned). v.taken + length c.args.piece.now) c.self.view_is,
+    λ log t.
+        let s = c.self.inside in
+        let old : Scanned = record { head = s.head; taken = s.taken; end = s.end; sums = s.sums; held = s.part.bytes; last = s.last; stopped = s.stopped } in
+        let missing = 24 + c.get.result - c.len.result in
+        let piece = c.args.piece.now in
+        let x = take missing piece in
+        let len : length x ≡ missing = length-take-le missing piece c.if-piece-missing.false in
+        let size : c.get.result ≡ s.head.size = c.get.ensures.value in
+        let none = none_of s.stopped (sym c.is_some.ensures ∙ c.if-is_some.false) in
+        let whole : length s.part.bytes + length x ≡ frame_length s.head = omega (arith, len, size, c.len.ensures.value, c.self.invariant.1, c.self.invariant.0) in
+        let got = taken_not old log (taken_of old c.args.self.now log c.self.view_is t) x c.in-Not.fault none whole (sym c.checked.ensures.value ∙ c.in-Not.is) in
+        let y = drop missing piece in
+        let mid : Scanned = record old { taken = old.taken + length x; held = []; stopped = Some c.in-Not.fault } in
+        let after = taken_stopped mid (log ++ x) got.0 y c.in-Not.fault refl in
+        let whole_piece : x ++ y ≡ piece = take-append-drop missing piece in
+        let joined : (log ++ x) ++ y ≡ log ++ piece = append_assoc log x y ∙ ap (λ (xs : List ℕ). log ++ xs) whole_piece in
+        let lengths : s.taken + length piece ≡ s.taken + length x + length y = omega (arith, length-append x y, ap (λ (xs : List ℕ). length xs) whole_piece) in
+        let final : Scanned = record mid { taken = mid.taken + length y } in (
+          taken_of _ final (log ++ piece) (same_scan _ final refl lengths refl refl (ap (λ p. p.bytes) c.checked.ensures.held) refl refl) (subst (λ (l : List ℕ). HasTaken final l) joined after.0),
+          ap valid_frames (sym joined) ∙ after.1 ∙ got.1,
+        ),
+  );
 }
