@@ -1,4 +1,4 @@
--- Texts cut at their last `/`, and texts that hold `://`.
+-- Texts cut at their last `/`.
 use Rattle.std.proofs.Common.{◌≡◌, ◌≢◌, ℕ, zero, suc, ◌+◌, ◌<◌, ◌≤◌, Bool, true, false, cond, ◌||◌, eqb, List, [], ◌∷◌, ◌++◌, length, get_or, take, drop, Option, Some, None, refl, sym, ap, subst, ◌∙◌, inl, inr, ⊎_elim, arith, Bor}
 use Rattle.std.specs.Prelude.{MatchOption, nat_eq, codes}
 use Rattle.std.specs.List.{starts_with}
@@ -9,7 +9,7 @@ use Rattle.std.proofs.lemmas.Bool.{ne_eqb, or_cases, or_right}
 use Rattle.std.proofs.lemmas.List.{take-append-drop}
 use Rattle.std.proofs.lemmas.Str.Pattern.{NoCharPasses-char, drop_at_char}
 use Rattle.std.proofs.lemmas.Slice.Eq.{bytes_eq-Decides}
-use Rattle.litestream_core.specs.Request.{placed, Output, last_cut, cut_at_last_slash, names_scheme}
+use Rattle.ls_words.specs.Path.{placed, Output, last_cut, cut_at_last_slash}
 
 LacksSlash : List ℕ → Type 0
 LacksSlash bs = (i : ℕ) → i < length bs → get_or bs i 0 ≢ 47
@@ -49,18 +49,3 @@ placed_in_folder path folder name e some = rw (e, some) refl
 
 pub placed_here : (path : List ℕ) → cut_at_last_slash path ≡ None → record { folder = codes "."; name = path } ≡ placed path (cut_at_last_slash path)
 placed_here path e = rw e refl
-
-named_there : (a b : List ℕ) → names_scheme (a ++ ((58 ∷ 47 ∷ 47 ∷ []) ++ b)) ≡ true
-named_there [] b = refl
-named_there (c ∷ a) b = or_right _ _ (named_there a b)
-
-pub named-from_slice : (s : List ℕ) → HasSubslice s (58 ∷ 47 ∷ 47 ∷ []) → names_scheme s ≡ true
-named-from_slice s (a, b, e) = ap names_scheme e ∙ named_there a b
-
-pub slice-from_named : (s : List ℕ) → names_scheme s ≡ true → HasSubslice s (58 ∷ 47 ∷ 47 ∷ [])
-slice-from_named [] e = absurd cc
-slice-from_named (c ∷ cs) e =
-    elim (or_cases (starts_with nat_eq (c ∷ cs) (codes "://")) (names_scheme cs) e) [
-      | inl here ↦ ([], drop 3 (c ∷ cs), sym (take-append-drop 3 (c ∷ cs)) ∙ ap (λ front. front ++ drop 3 (c ∷ cs)) (sym ((bytes_eq-Decides (58 ∷ 47 ∷ 47 ∷ []) (take 3 (c ∷ cs))).0 here)))
-      | inr later ↦ let rest = slice-from_named cs later in (c ∷ rest.0, rest.1, ap (λ t. c ∷ t) rest.2)
-    ]

@@ -1,24 +1,22 @@
 //! The top call of `litestream`: it reads the words of a command, carries the command out over the disks
 //! and the output that it is handed, and answers with one cause.
 //!
-//! For the words `restore -o OUT -txid T REPLICA` it writes the database that the replica's file for T
-//! holds. The contract of `litestream` says what each answer means and what stands after it; the program's
-//! `main` makes this one call on the real objects.
+//! To `main` it promises: what a restore writes is what the database had at the transaction that is asked for,
+//! where the replica tells the truth; under the output's name stands that or nothing, whatever a crash takes; and
+//! each answer has its cause. The contract of `litestream` says so, answer by answer; the program's `main` makes
+//! this one call on the real objects.
 //!
-//! Stands on `ls_base`, `crash_disk`, `ltx_format` and `replica_store`.
+//! Stands on `ls_base`, `crash_disk`, `ls_words`, `replica_store`, `restore_plan` and `restore_apply`.
 #![tactic(auto)]
 
+mod asked;
 mod command;
-mod gathered;
 mod line;
 mod outcome;
-mod output;
-mod replica;
+mod prepare;
 mod request;
 #[cfg(test)]
 mod tests;
-mod words;
 
 pub use command::litestream;
-pub use outcome::{Damage, Outcome, Why};
-pub use words::Words;
+pub use outcome::{Outcome, Why};
