@@ -1,7 +1,7 @@
 -- The first fault of a file is that of its reader, and bytes without one are a file.
 use Rattle.std.proofs.Common.{◌≡◌, ◌↔◌, ℕ, suc, ◌+◌, ◌-◌, ◌<◌, ◌≤◌, ◌^◌, Bool, true, false, cond, eqb, ltb, not, ◌||◌, ◌&&◌, T, List, [], ◌∷◌, ◌++◌, length, drop, Option, Some, None, Result, Ok, Err, refl, sym, ap, subst, ◌∙◌, append_assoc, length-append, arith}
 use Rattle.std.specs.Option.{option_or}
-use Rattle.std.specs.Int.{w32, w64}
+use Rattle.std.specs.Result.{IfErr}
 use Rattle.std.specs.Ordering.{nat_cmp, is_lt}
 use Rattle.std.specs.FinMap.{FinMap, entries, from_sorted, entries-from_sorted, is_sorted}
 use Rattle.std.specs.FinMap.Entries.{below_all}
@@ -16,7 +16,7 @@ use Rattle.ltx_format.specs.declared.fault.LtxFault.TheVariants.{BadOrder}
 use Rattle.ltx_format.specs.declared.file.LtxFile.{LtxFile}
 use Rattle.ltx_format.specs.declared.header.LtxHeader.{LtxHeader}
 use Rattle.ltx_format.specs.LtxFormat.{IsHeader, IsLtxFile, header_bytes}
-use Rattle.ltx_format.specs.FirstFault.{number, page_size, commit, min_txid, header_fault, fault_from, first_fault}
+use Rattle.ltx_format.specs.FirstFault.{number, page_size, commit, min_txid, header_fault, fault_from, first_fault, ExplainsDecode}
 use Rattle.ltx_format.specs.Reading.{◌>>=◌, where_true, passes, header_at, blocks_at, end_at, is_whole, file_at, ReadsInMemory, parts}
 use Rattle.ltx_format.proofs.TestSteps.{fault_of}
 use Rattle.ltx_format.proofs.FieldLaws.{AreBytes, BeginsWith, numbers32, numbers64}
@@ -108,8 +108,10 @@ pub file_fault : (bytes : List ℕ) → AreBytes bytes → fault_of (file_at byt
 unfolding file_at first_fault
 file_fault bytes small = by_header bytes (header_at bytes) small refl
 
-pub told_fault : (bytes : List ℕ) (r : Result LtxFile DecodeFault) → AreBytes bytes → ReadsInMemory parts r (file_at bytes) → (fault : LtxFault) → r ≡ Err (causes.Fault fault) → first_fault bytes ≡ Some fault
-told_fault bytes r small reads fault e = sym (file_fault bytes small) ∙ ap fault_of (subst (λ (answer : Result LtxFile DecodeFault). ReadsInMemory parts answer (file_at bytes)) e reads)
+pub explained : (bytes : List ℕ) (r : Result LtxFile DecodeFault) → AreBytes bytes → ReadsInMemory parts r (file_at bytes) → IfErr r (λ e. ExplainsDecode bytes e)
+explained bytes (Ok file) small reads = tt
+explained bytes (Err (causes.Fault fault)) small reads = sym (file_fault bytes small) ∙ ap fault_of reads
+explained bytes (Err causes.Memory) small reads = tt
 
 -- ---- bytes without a fault
 

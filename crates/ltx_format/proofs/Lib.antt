@@ -12,4 +12,5 @@ pub mod PageLemmas
 pub mod FileLaws
 pub mod Theorems
 pub mod FileFaults
+pub mod FrontLemmas
 pub mod StandardFacts

@@ -1,9 +1,11 @@
 -- The first fault of bytes: the parts of a file are tested in this order, and the first test that fails
 -- tells.
-use Rattle.std.specs.Prelude.{ℕ, zero, suc, ◌+◌, ◌-◌, ◌*◌, ◌%◌, ◌^◌, Bool, List, [], ◌∷◌, length, take, drop, Option, Some, None, nat_lt, nat_le, ◌==◌, ◌&&◌, ◌||◌, not, if◌then◌else◌}
+use Rattle.std.specs.Prelude.{◌≡◌, ℕ, zero, suc, ◌+◌, ◌-◌, ◌*◌, ◌%◌, ◌^◌, Bool, List, [], ◌∷◌, length, take, drop, Option, Some, None, nat_lt, nat_le, ◌==◌, ◌&&◌, ◌||◌, not, if◌then◌else◌}
 use Rattle.std.specs.Option.{option_or}
 use Rattle.std.specs.Int.{Width, w16, w32, w64, byte_len, from_be_bytes}
 use Rattle.ls_base.specs.PageSize.{is_page_size}
+use Rattle.ltx_format.specs.declared.fault.DecodeFault.{DecodeFault}
+use Rattle.ltx_format.specs.declared.fault.DecodeFault.TheVariants.{Fault, Memory}
 use Rattle.ltx_format.specs.declared.fault.LtxFault.{LtxFault}
 use Rattle.ltx_format.specs.declared.fault.LtxFault.TheVariants.{Short, BadMagic, Compressed, BadFlags, BadPageSize, BadCommit, BadRange, BadReserved, BadOrder, BadSum, Extra}
 use Rattle.ltx_format.specs.LtxFormat.{file_sum}
@@ -110,3 +112,8 @@ fault_from (suc left) bytes count last at =
 -- the first fault of the whole
 unfoldable pub first_fault : List ℕ → Option LtxFault
 first_fault bytes = option_or (header_fault bytes) (fault_from (suc (commit bytes)) bytes 0 0 100)
+
+-- why bytes were not read: their first fault, or want of memory
+abbrev pub ExplainsDecode : List ℕ → DecodeFault → Type 0
+ExplainsDecode bytes (Fault fault) = first_fault bytes ≡ Some fault
+ExplainsDecode bytes Memory = Unit {0}

@@ -1,5 +1,5 @@
 -- The LTX file of this project's profile, after superfly/ltx. All numbers are big-endian.
-use Rattle.std.specs.Prelude.{◌≡◌, ℕ, ◌+◌, ◌-◌, ◌*◌, ◌^◌, ◌<◌, ◌≤◌, List, ◌++◌, length, replicate, codes, bit_or, Result, Some, IsSome, MatchResult}
+use Rattle.std.specs.Prelude.{◌≡◌, ℕ, ◌+◌, ◌-◌, ◌*◌, ◌^◌, ◌<◌, ◌≤◌, List, ◌++◌, length, take, replicate, codes, bit_or, Result, Some, IsSome, MatchResult}
 use Rattle.std.specs.List.{flat_map}
 use Rattle.std.specs.Ordering.{nat_cmp}
 use Rattle.std.specs.FinMap.{FinMap, get, entries}
@@ -52,6 +52,11 @@ pub record IsHeader (h : LtxHeader) : Type 0 where
   pub max_fits : h.max < 2 ^ 64
   pub moment_fits : h.moment < 2 ^ 64
   pub place : IsPlaceFor h.size h.place
+
+-- the first 100 bytes are this header's
+pub record HasHeader (bytes : List ℕ) (h : LtxHeader) : Type 0 where
+  pub header : IsHeader h
+  pub spelled : take 100 bytes ≡ header_bytes h
 
 -- a page block: the page's number, flags 0, and the page
 abbrev pub page_block : ℕ × List ℕ → List ℕ

@@ -9,7 +9,7 @@ use crate::place::place_of;
 use ls_base::{PageSize, Txid};
 
 /// The length of a header in bytes.
-const HEADER_BYTES: usize = 100;
+pub(crate) const HEADER_BYTES: usize = 100;
 /// The first four bytes of each file, `LTX1`, as a number.
 const MAGIC: u32 = 0x4c54_5831;
 /// The flags of a file that has no rolling checksums.

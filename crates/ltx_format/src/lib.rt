@@ -25,5 +25,5 @@ mod trailer;
 pub use fault::{DecodeFault, LtxFault};
 pub use file::LtxFile;
 pub use header::LtxHeader;
-pub use reading::decode;
+pub use reading::{decode, read_ltx_header};
 pub use spelling::{faultless_files, one_spelling};

@@ -1,15 +1,17 @@
-//! Reading a whole file.
+//! Reading a file, and its header alone.
 
-ghost use Rattle.std.specs.Prelude.{◌≡◌, MatchResult, IfOk};
+ghost use Rattle.std.specs.Prelude.{◌≡◌, take, Some, Ok, IfOk, IfErr};
 ghost use Rattle.ls_base.specs.Change.{Change};
 ghost use Rattle.ltx_format.specs.declared.header.LtxHeader.{LtxHeader};
-ghost use Rattle.ltx_format.specs.LtxFormat.{IsLtxFile, change_of, ReadsAs};
+ghost use Rattle.ltx_format.specs.LtxFormat.{IsLtxFile, HasHeader, change_of, ReadsAs};
+ghost use Rattle.ltx_format.specs.FirstFault.{header_fault, ExplainsDecode};
 ghost use Rattle.ltx_format.specs.Reading.{ReadsInMemory, parts, file_at};
 
 use crate::block::pages_of;
 use crate::fault::{DecodeFault, LtxFault};
 use crate::file::LtxFile;
-use crate::heading::header_of;
+use crate::header::LtxHeader;
+use crate::heading::{HEADER_BYTES, header_of};
 use crate::trailer::end_of;
 use std::alloc::Global;
 
@@ -20,8 +22,24 @@ pub fn decode(alloc: Global, bytes: &[u8]) -> Result<LtxFile, DecodeFault>
     ensures found { IfOk result (λ file. IsLtxFile bytes.now file.header (change_of file)) }
     // What is spelled so is read, unless memory runs out.
     ensures only { (h : LtxHeader) (c : Change) → IsLtxFile bytes.now h c → ReadsAs result h c }
+    // What is wrong with other bytes.
+    ensures fault { IfErr result (λ e. ExplainsDecode bytes.now e) }
 {
     file_of(alloc, bytes)
+}
+
+/// The header that the first 100 bytes are; bytes behind them are not looked at. Where they are no header,
+/// their first fault. Takes no memory.
+pub fn read_ltx_header(bytes: &[u8]) -> Result<LtxHeader, LtxFault>
+    ensures found { IfOk result (λ h. HasHeader bytes.now h) }
+    ensures only { (h : LtxHeader) → HasHeader bytes.now h → result ≡ Ok h }
+    ensures fault { IfErr result (λ fault. header_fault (take 100 bytes.now) ≡ Some fault) }
+{
+    let front = &bytes[..bytes.len().min(HEADER_BYTES)];
+    match header_of(front) {
+        Ok((header, _)) => Ok(header),
+        Err(fault) => Err(fault),
+    }
 }
 
 /// The file by its parts.
