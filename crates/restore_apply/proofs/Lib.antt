@@ -1,3 +1,5 @@
+pub mod PlanLemmas
+pub mod SourceLemmas
 pub mod StagingLemmas
 pub mod StopLemmas
 pub mod OutputLemmas
