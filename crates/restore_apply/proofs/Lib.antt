@@ -3,3 +3,4 @@ pub mod SourceLemmas
 pub mod StagingLemmas
 pub mod StopLemmas
 pub mod OutputLemmas
+pub mod RestoreLemmas

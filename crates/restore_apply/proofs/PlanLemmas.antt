@@ -75,7 +75,7 @@ not_wanted events None files names none are is = refl
 not_wanted events (Some size) [] names none are is = absurd (is.0 refl)
 not_wanted events (Some size) (f ∷ files) names none are is = absurd (subst (λ (ns : List FileName). AreFilesUnder events ns (f ∷ files)) none are)
 
-split_at : (plan : List FileName) (at : ℕ) (name : FileName) → at < length plan → name ≡ get_or plan at name → plan ≡ take at plan ++ name ∷ drop (at + 1) plan
+pub split_at : (plan : List FileName) (at : ℕ) (name : FileName) → at < length plan → name ≡ get_or plan at name → plan ≡ take at plan ++ name ∷ drop (at + 1) plan
 split_at plan at name below is =
     sym (take-append-drop at plan) ∙ ap (λ rest. take at plan ++ rest) (drop_more plan at name below) ∙ ap (λ (n : FileName). take at plan ++ n ∷ drop (at + 1) plan) (sym is)
 

@@ -119,9 +119,9 @@ page_has_source : (files : List LtxFile) (sources : List ℕ) (s : State) (place
 page_has_source files sources s place file are at some =
     or_some place (get file.pages (at + 1)) (page_of s (at + 1)) (slice_get sources at)
     (λ old.
-      let source = has (slice_get sources at) old in
-      let within : at < length s.pages = omega (arith, slice_get_within sources at source.0 source.1, are.count) in
-      subst (λ (o : Option (List ℕ)). IsSome o) (sym (page_of_next s at)) (there_at s.pages at within))
+    let source = has (slice_get sources at) old in
+    let within : at < length s.pages = omega (arith, slice_get_within sources at source.0 source.1, are.count) in
+    subst (λ (o : Option (List ℕ)). IsSome o) (sym (page_of_next s at)) (there_at s.pages at within))
     some
 
 -- a page without a source after the change is missing
@@ -255,9 +255,9 @@ pub bytes_are : (files : List LtxFile) (sources : List ℕ) (s : State) → AreS
 bytes_are files sources s are =
     let count : length (map (page_at files sources) (range_with_len 0 (length sources))) ≡ length sources = length-map-range_with_len (page_at files sources) 0 (length sources) in
     ap concat (same_lists (map (page_at files sources) (range_with_len 0 (length sources))) s.pages (count ∙ are.count) (λ k d below.
-      let within : k < length sources = omega (arith, below, count) in
-      get_or-map-range_with_len (page_at files sources) 0 (length sources) k k d within (omega arith) ∙ ap (λ (o : Option (List ℕ)). unwrap_or o []) (are.each k within)
-      ∙ unwrap_or-slice_get s.pages k [] ∙ get_or_default s.pages k [] d (omega (arith, within, are.count))))
+    let within : k < length sources = omega (arith, below, count) in
+    get_or-map-range_with_len (page_at files sources) 0 (length sources) k k d within (omega arith) ∙ ap (λ (o : Option (List ℕ)). unwrap_or o []) (are.each k within)
+    ∙ unwrap_or-slice_get s.pages k [] ∙ get_or_default s.pages k [] d (omega (arith, within, are.count))))
 
 size_small : (n : ℕ) → IsPageSize n → n ≤ 65536
 size_small n (k, low, high, is) = let bound : 2 ^ k ≤ 2 ^ 16 = pow-le-pow_right {n = 2} (omega arith) high in omega (arith, is, bound)

@@ -51,14 +51,7 @@ pub fn restore<S: Disk, T: Disk>(
     let sources = sources_of(alloc, &files, plan)?;
     let gathered = Gathered::new(alloc)?;
     let temporary = temporary_name(alloc, name)?;
-    if let Err(fault) = write_output(
-        target,
-        temporary.as_str(),
-        name,
-        &files,
-        &sources,
-        gathered,
-    ) {
+    if let Err(fault) = write_output(target, temporary.as_str(), name, &files, &sources, gathered) {
         return Err(RestoreFault::Target(fault));
     }
     Ok(Restored {
