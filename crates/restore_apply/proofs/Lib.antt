@@ -1,3 +1,6 @@
+pub mod PlanLemmas
+pub mod SourceLemmas
 pub mod StagingLemmas
 pub mod StopLemmas
 pub mod OutputLemmas
+pub mod RestoreLemmas

@@ -9,40 +9,14 @@ use Rattle.crash_disk.specs.Told.{Told, gains, IfTold, GainsOrNot, GainsPrefixOr
 use Rattle.crash_disk.specs.Files.{IsThere, file_at}
 use Rattle.crash_disk.specs.FileLaws.{file_at-Created-here, file_at-Appended-here, file_at-Appended-other, file_at-Synced}
 use Rattle.crash_disk.specs.GoesOn.{GoesOn}
+use Rattle.crash_disk.proofs.GoesOnLemmas.{goes_on-gains, goes_on-same, goes_on-then, goes_on-weaker}
 use Rattle.restore_apply.specs.Staging.{appended, OnlyAppends, AppendsGathered, temporary_name, MayBegin, Begins, Fills, Names, MayName, Began, Synchronized, Named, Settles, MaySettle, Left, Cleared}
-
--- one more change
-pub goes_on-gains : (old new : Told) (event : Event) (P : List Event → List Event → Type 0) → new ≡ gains old event → ((events : List Event) → P events (event ∷ events)) → GoesOn old new P
-goes_on-gains old new event P is holds = record {
-  told = λ events told. (event ∷ events, is ∙ ap (option_map (λ es. event ∷ es)) told, holds events);
-  silent = λ silent. is ∙ ap (option_map (λ es. event ∷ es)) silent;
-}
 
 -- two more
 goes_on-gains_two : (old mid new : Told) (first second : Event) → mid ≡ gains old first → new ≡ gains mid second → GoesOn old new (λ x y. y ≡ second ∷ first ∷ x)
 goes_on-gains_two old mid new first second is_first is_second = record {
   told = λ events told. (second ∷ first ∷ events, is_second ∙ ap (option_map (λ es. second ∷ es)) (is_first ∙ ap (option_map (λ es. first ∷ es)) told), refl);
   silent = λ silent. is_second ∙ ap (option_map (λ es. second ∷ es)) (is_first ∙ ap (option_map (λ es. first ∷ es)) silent);
-}
-
--- no change
-pub goes_on-same : (old new : Told) (P : List Event → List Event → Type 0) → new ≡ old → ((events : List Event) → P events events) → GoesOn old new P
-goes_on-same old new P is holds = record { told = λ events told. (events, is ∙ told, holds events); silent = λ silent. is ∙ silent }
-
--- one part of a run, and then another
-pub goes_on-then : (a b c : Told) (P Q R : List Event → List Event → Type 0) → GoesOn a b P → GoesOn b c Q → ((x y z : List Event) → P x y → Q y z → R x z) → GoesOn a c R
-goes_on-then a b c P Q R first second joins = record {
-  told = λ events told.
-      let f = first.told events told in
-      let s = second.told f.0 f.1 in
-      (s.0, s.1, joins events f.0 s.0 f.2 s.2);
-  silent = λ silent. second.silent (first.silent silent);
-}
-
-pub goes_on-weaker : (old new : Told) (P Q : List Event → List Event → Type 0) → GoesOn old new P → ((x y : List Event) → P x y → Q x y) → GoesOn old new Q
-goes_on-weaker old new P Q goes implies = record {
-  told = λ events told. let g = goes.told events told in (g.0, g.1, implies events g.0 g.2);
-  silent = goes.silent;
 }
 
 -- what was gathered is appended

@@ -1,3 +1,5 @@
 pub mod Stop
 pub mod Staging
 pub mod Restoring
+pub mod PlanFiles
+pub mod Sources

@@ -5,7 +5,7 @@ ghost use Rattle.crash_disk.specs.Fault.{HasCause};
 ghost use Rattle.crash_disk.specs.Told.{IfTold};
 ghost use Rattle.crash_disk.specs.Files.{IsThere};
 ghost use Rattle.restore_apply.specs.declared.gathered.TheConstants.{GATHERED_BYTES};
-ghost use Rattle.crash_disk.specs.GoesOn.{GoesOn}
+ghost use Rattle.crash_disk.specs.GoesOn.{GoesOn};
 ghost use Rattle.restore_apply.specs.Staging.{OnlyAppends, AppendsGathered};
 
 use crash_disk::{Disk, DiskFault};

@@ -6,10 +6,12 @@
 //! Stands on `ls_base`, `crash_disk`, `ltx_format` and `replica_store`.
 #![tactic(auto)]
 
+mod applying;
 mod gathered;
 mod output;
-mod restore;
+mod reading;
 mod restored;
+mod sources;
 
-pub use restore::restore;
+pub use applying::restore;
 pub use restored::{RestoreFault, Restored};

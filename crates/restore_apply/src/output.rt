@@ -1,13 +1,12 @@
 //! Writing the output: whole under its name, or not at all.
 
-ghost use Rattle.std.specs.Prelude.{◌≡◌, ◌≢◌, ◌≤◌, [], string_bytes, IfOk, OnOk, OnErr};
+ghost use Rattle.std.specs.Prelude.{◌≡◌, ◌≢◌, ◌^◌, ◌<◌, ◌≤◌, [], length, string_bytes, IfOk, OnOk, OnErr};
 ghost use Rattle.crash_disk.specs.Fault.{HasCause};
 ghost use Rattle.crash_disk.specs.Told.{IfTold};
 ghost use Rattle.crash_disk.specs.Files.{IsThere};
-ghost use Rattle.ltx_format.specs.LtxFormat.{change_of};
-ghost use Rattle.crash_disk.specs.GoesOn.{GoesOn}
+ghost use Rattle.crash_disk.specs.GoesOn.{GoesOn};
 ghost use Rattle.restore_apply.specs.Staging.{OnlyAppends, AppendsGathered, MayBegin, Fills, Names, MayName, Settles, MaySettle, temporary_name};
-ghost use Rattle.restore_apply.specs.Whole.{HoldsEachPage, image_of};
+ghost use Rattle.restore_apply.specs.Sources.{HoldsEachPage, sourced_bytes};
 
 use crate::gathered::Gathered;
 use crash_disk::{Disk, DiskFault};
@@ -26,18 +25,23 @@ pub fn temporary_name(alloc: Global, name: &str) -> Result<String, AllocError>
 fn put_pages<D: Disk>(
     disk: &mut D,
     name: &str,
-    file: &LtxFile,
+    files: &[LtxFile],
+    sources: &[usize],
     gathered: &mut Gathered,
 ) -> Result<(), DiskFault>
     requires there { IfTold (D.told disk.old) (λ events. IsThere events name.now) }
-    requires whole { HoldsEachPage (change_of file.now) }
-    ensures ok { OnOk result (GoesOn (D.told disk.old) (D.told disk.new) (AppendsGathered name.now gathered.old (image_of (change_of file.now)) gathered.new)) }
+    requires few { length sources.now < 2 ^ 32 }
+    requires whole { HoldsEachPage files.now sources.now }
+    ensures ok { OnOk result (GoesOn (D.told disk.old) (D.told disk.new) (AppendsGathered name.now gathered.old (sourced_bytes files.now sources.now) gathered.new)) }
     ensures err { OnErr result (GoesOn (D.told disk.old) (D.told disk.new) (OnlyAppends name.now)) }
     ensures same_folder { D.folder disk.new ≡ D.folder disk.old }
     ensures cause { HasCause (D.fault_count disk.old) (D.fault_count disk.new) result }
 {
-    for at in 0..file.header.commit {
-        let Some(page) = file.pages.get(at + 1) else {
+    for at in 0..sources.len() {
+        let Some(file) = files.get(sources[at]) else {
+            unreachable!()
+        };
+        let Some(page) = file.pages.get(at as u32 + 1) else {
             unreachable!()
         };
         gathered.put(disk, name, page.bytes())?;
@@ -48,61 +52,67 @@ fn put_pages<D: Disk>(
 fn fill<D: Disk>(
     disk: &mut D,
     name: &str,
-    file: &LtxFile,
+    files: &[LtxFile],
+    sources: &[usize],
     gathered: &mut Gathered,
 ) -> Result<(), DiskFault>
-    requires whole { HoldsEachPage (change_of file.now) }
+    requires few { length sources.now < 2 ^ 32 }
+    requires whole { HoldsEachPage files.now sources.now }
     requires empty { gathered.old ≡ [] }
-    ensures ok { OnOk result (GoesOn (D.told disk.old) (D.told disk.new) (Fills name.now (image_of (change_of file.now)))) }
+    ensures ok { OnOk result (GoesOn (D.told disk.old) (D.told disk.new) (Fills name.now (sourced_bytes files.now sources.now))) }
     ensures there { OnOk result (IfTold (D.told disk.new) (λ events. IsThere events name.now)) }
     ensures err { OnErr result (GoesOn (D.told disk.old) (D.told disk.new) (MayBegin name.now)) }
     ensures same_folder { D.folder disk.new ≡ D.folder disk.old }
     ensures cause { HasCause (D.fault_count disk.old) (D.fault_count disk.new) result }
 {
     disk.create(name)?;
-    put_pages(disk, name, file, gathered)?;
+    put_pages(disk, name, files, sources, gathered)?;
     gathered.flush(disk, name)
 }
 
-/// Writes the file's pages under the temporary name, brings them to the disk and gives them the name.
+/// Writes the pages under the temporary name, brings them to the disk and gives them the name.
 fn write_named<D: Disk>(
     disk: &mut D,
     temporary: &str,
     name: &str,
-    file: &LtxFile,
+    files: &[LtxFile],
+    sources: &[usize],
     gathered: &mut Gathered,
 ) -> Result<(), DiskFault>
     requires apart { temporary.now ≢ name.now }
-    requires whole { HoldsEachPage (change_of file.now) }
+    requires few { length sources.now < 2 ^ 32 }
+    requires whole { HoldsEachPage files.now sources.now }
     requires empty { gathered.old ≡ [] }
-    ensures ok { OnOk result (GoesOn (D.told disk.old) (D.told disk.new) (Names temporary.now name.now (image_of (change_of file.now)))) }
-    ensures err { OnErr result (GoesOn (D.told disk.old) (D.told disk.new) (MayName temporary.now name.now (image_of (change_of file.now)))) }
+    ensures ok { OnOk result (GoesOn (D.told disk.old) (D.told disk.new) (Names temporary.now name.now (sourced_bytes files.now sources.now))) }
+    ensures err { OnErr result (GoesOn (D.told disk.old) (D.told disk.new) (MayName temporary.now name.now (sourced_bytes files.now sources.now))) }
     ensures same_folder { D.folder disk.new ≡ D.folder disk.old }
     ensures cause { HasCause (D.fault_count disk.old) (D.fault_count disk.new) result }
 {
-    fill(disk, temporary, file, gathered)?;
+    fill(disk, temporary, files, sources, gathered)?;
     disk.sync(temporary)?;
     disk.rename(temporary, name)
 }
 
-/// Writes the database that the whole file holds: under the temporary name first, so that nothing but the
-/// whole of it ever has the name.
+/// Writes the pages, each from its source: under the temporary name first, so that nothing but the whole of
+/// them ever has the name.
 pub fn write_output<D: Disk>(
     disk: &mut D,
     temporary: &str,
     name: &str,
-    file: &LtxFile,
+    files: &[LtxFile],
+    sources: &[usize],
     mut gathered: Gathered,
 ) -> Result<(), DiskFault>
     requires temporary { temporary.now ≡ temporary_name name.now }
-    requires whole { HoldsEachPage (change_of file.now) }
+    requires few { length sources.now < 2 ^ 32 }
+    requires whole { HoldsEachPage files.now sources.now }
     requires empty { gathered ≡ [] }
-    ensures ok { OnOk result (GoesOn (D.told disk.old) (D.told disk.new) (Settles name.now (image_of (change_of file.now)))) }
-    ensures err { OnErr result (GoesOn (D.told disk.old) (D.told disk.new) (MaySettle name.now (image_of (change_of file.now)))) }
+    ensures ok { OnOk result (GoesOn (D.told disk.old) (D.told disk.new) (Settles name.now (sourced_bytes files.now sources.now))) }
+    ensures err { OnErr result (GoesOn (D.told disk.old) (D.told disk.new) (MaySettle name.now (sourced_bytes files.now sources.now))) }
     ensures same_folder { D.folder disk.new ≡ D.folder disk.old }
     ensures cause { HasCause (D.fault_count disk.old) (D.fault_count disk.new) result }
 {
-    if let Err(fault) = write_named(disk, temporary, name, file, &mut gathered) {
+    if let Err(fault) = write_named(disk, temporary, name, files, sources, &mut gathered) {
         // What is left of it is of no use to anyone; the fault that counts is the first.
         let _ = disk.remove(temporary);
         return Err(fault);

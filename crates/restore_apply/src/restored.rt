@@ -1,8 +1,13 @@
 //! What a restore answers.
 
+ghost use Rattle.std.specs.Prelude.{◌≡◌};
+ghost use Rattle.restore_apply.specs.PlanFiles.{fault_of};
+ghost use Rattle.restore_apply.specs.declared.restored.RestoreFault.TheVariants.{Memory as want};
+
 use crash_disk::DiskFault;
 use ls_base::Txid;
-use replica_store::{Damage, FileName};
+use replica_store::{Damage, FileName, StoreError};
+use std::alloc::{AllocError, AllocFailed};
 
 /// A restore that was done.
 #[derive(Clone, Copy, Debug, PartialEq, Eq)]
@@ -28,4 +33,32 @@ pub enum RestoreFault {
     Target(DiskFault),
     /// There was no memory.
     Memory,
+}
+
+impl From<StoreError> for RestoreFault {
+    ghost from_gives = { λ error fault. fault ≡ fault_of error };
+
+    fn from(error: StoreError) -> RestoreFault {
+        match error {
+            StoreError::Store(fault) => RestoreFault::Store(fault),
+            StoreError::Damaged(name, damage) => RestoreFault::Damaged(name, damage),
+            StoreError::Memory => RestoreFault::Memory,
+        }
+    }
+}
+
+impl From<AllocError> for RestoreFault {
+    ghost from_gives = { λ _ fault. fault ≡ want };
+
+    fn from(_: AllocError) -> RestoreFault {
+        RestoreFault::Memory
+    }
+}
+
+impl<T: Drop> From<AllocFailed<T>> for RestoreFault {
+    ghost from_gives = { λ _ fault. fault ≡ want };
+
+    fn from(_: AllocFailed<T>) -> RestoreFault {
+        RestoreFault::Memory
+    }
 }

@@ -1,10 +1,10 @@
 use Rattle.std.proofs.Common.{◌≡◌, [], ◌++◌, List, ℕ, subst, sym}
 use Rattle.std.proofs.lemmas.Result.{on_err_weaker, on_ok_weaker}
-use Rattle.ltx_format.specs.LtxFormat.{change_of}
-use Rattle.restore_apply.specs.Whole.{image_of}
+use Rattle.restore_apply.specs.Sources.{sourced_bytes}
+use Rattle.crash_disk.proofs.GoesOnLemmas.{goes_on-then, goes_on-weaker}
 use Rattle.crash_disk.specs.GoesOn.{GoesOn}
 use Rattle.restore_apply.specs.Staging.{OnlyAppends, AppendsGathered, Fills, MayBegin}
-use Rattle.restore_apply.proofs.StagingLemmas.{goes_on-then, goes_on-weaker, only_appends, only_appends-then, still_there, there_once_created, filled, there_once_filled, begun-not_created, begun-only_appends, err_leaves}
+use Rattle.restore_apply.proofs.StagingLemmas.{only_appends, only_appends-then, still_there, there_once_created, filled, there_once_filled, begun-not_created, begun-only_appends, err_leaves}
 use Rattle.restore_apply.proofs.output.fill.Goals as goal
 
 pub put_pages-requires-clause-there : goal.put_pages-requires-clause-there
@@ -20,7 +20,7 @@ flush-requires g c = record {
 
 pub returns-clause-ok : goal.returns-clause-ok
 returns-clause-ok g c =
-    let bytes = image_of (change_of c.args.file.now) in
+    let bytes = sourced_bytes c.args.files.now c.args.sources.now in
     on_ok_weaker c.flush.result (λ flushed. filled (g.D.Disk.told c.args.disk.now) (g.D.Disk.told c.create.new.self) (g.D.Disk.told c.put_pages.new.disk) (g.D.Disk.told c.flush.new.disk) c.args.name.now bytes c.put_pages.new.gathered
     c.in_ok-create.ensures.ok
     (subst (λ (before : List ℕ). GoesOn (g.D.Disk.told c.create.new.self) (g.D.Disk.told c.put_pages.new.disk) (AppendsGathered c.args.name.now before bytes c.put_pages.new.gathered)) c.requires.empty c.in_ok-put_pages.ensures.ok)
@@ -28,7 +28,7 @@ returns-clause-ok g c =
 
 pub returns-clause-there : goal.returns-clause-there
 returns-clause-there g c =
-    let bytes = image_of (change_of c.args.file.now) in
+    let bytes = sourced_bytes c.args.files.now c.args.sources.now in
     on_ok_weaker c.flush.result (λ flushed. there_once_filled (g.D.Disk.told c.args.disk.now) (g.D.Disk.told c.flush.new.disk) c.args.name.now bytes
     (filled (g.D.Disk.told c.args.disk.now) (g.D.Disk.told c.create.new.self) (g.D.Disk.told c.put_pages.new.disk) (g.D.Disk.told c.flush.new.disk) c.args.name.now bytes c.put_pages.new.gathered
     c.in_ok-create.ensures.ok

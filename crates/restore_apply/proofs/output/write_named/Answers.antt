@@ -1,6 +1,5 @@
 use Rattle.std.proofs.lemmas.Result.{on_err_weaker}
-use Rattle.ltx_format.specs.LtxFormat.{change_of}
-use Rattle.restore_apply.specs.Whole.{image_of}
+use Rattle.restore_apply.specs.Sources.{sourced_bytes}
 use Rattle.restore_apply.proofs.StagingLemmas.{there_once_synced, maybe_named}
 use Rattle.restore_apply.proofs.output.write_named.Goals as goal
 
@@ -10,4 +9,4 @@ rename-requires-clause-there g c = there_once_synced (g.D.Disk.told c.fill.new.d
 pub returns-clause-err : goal.returns-clause-err
 returns-clause-err g c =
     on_err_weaker c.rename.result (maybe_named (g.D.Disk.told c.args.disk.now) (g.D.Disk.told c.fill.new.disk) (g.D.Disk.told c.sync.new.self) (g.D.Disk.told c.rename.new.self) c.args.temporary.now c.args.name.now
-    (image_of (change_of c.args.file.now)) c.in_ok-fill.ensures.ok c.in_ok-sync.ensures.ok) c.rename.ensures.err
+    (sourced_bytes c.args.files.now c.args.sources.now) c.in_ok-fill.ensures.ok c.in_ok-sync.ensures.ok) c.rename.ensures.err

@@ -1,8 +1,7 @@
 use Rattle.std.proofs.Common.{List, ℕ, subst}
 use Rattle.crash_disk.specs.declared.event.Event.TheVariants.{Removed}
 use Rattle.crash_disk.specs.Told.{GainsOrNot}
-use Rattle.ltx_format.specs.LtxFormat.{change_of}
-use Rattle.restore_apply.specs.Whole.{image_of}
+use Rattle.restore_apply.specs.Sources.{sourced_bytes}
 use Rattle.crash_disk.specs.GoesOn.{GoesOn}
 use Rattle.restore_apply.specs.Staging.{MayName, temporary_name}
 use Rattle.restore_apply.proofs.StagingLemmas.{cleared, tried}
@@ -14,7 +13,7 @@ returns-in-Err-clause-err g c =
     let left = g.D.Disk.told c.write_named.new.disk in
     let new = g.D.Disk.told c.remove.new.self in
     let name = c.args.name.now in
-    let bytes = image_of (change_of c.args.file.now) in
+    let bytes = sourced_bytes c.args.files.now c.args.sources.now in
     cleared old left new name bytes
     (subst (λ (temporary : List ℕ). GoesOn old left (MayName temporary name bytes)) c.requires.temporary c.in-Err.ensures.err)
     (subst (λ (temporary : List ℕ). GainsOrNot left new (Removed temporary)) c.requires.temporary (tried c.remove.result left new (Removed c.args.temporary.now) c.remove.ensures.ok c.remove.ensures.err))

@@ -3,12 +3,26 @@
 ghost use Rattle.std.specs.Prelude.{◌≡◌, ◌≢◌, ◌≤◌, [], None, IfOk, IfErr};
 ghost use Rattle.crash_disk.specs.Told.{IfTold};
 ghost use Rattle.crash_disk.specs.Files.{file_at};
+ghost use Rattle.restore_apply.specs.PlanFiles.{IsLastOf};
 ghost use Rattle.restore_apply.specs.Restoring.{Restores, ExplainsRestore};
 
+use crate::gathered::Gathered;
+use crate::output::{temporary_name, write_output};
+use crate::reading::read_files;
 use crate::restored::{RestoreFault, Restored};
+use crate::sources::sources_of;
 use crash_disk::Disk;
+use ls_base::Txid;
 use replica_store::FileName;
 use std::alloc::Global;
+
+/// The last transaction of a plan.
+fn last_txid(plan: &[FileName]) -> Txid
+    requires some { plan.now ≢ [] }
+    ensures { IsLastOf plan.now result }
+{
+    plan[plan.len() - 1].max
+}
 
 /// Writes the database that the plan's files make, applied one after another to nothing, under the name in
 /// `target`.
@@ -33,5 +47,15 @@ pub fn restore<S: Disk, T: Disk>(
     ensures store_later { S.fault_count store.old ≤ S.fault_count store.new }
     ensures target_later { T.fault_count target.old ≤ T.fault_count target.new }
 {
-    loop {}
+    let files = read_files(alloc, store, plan)?;
+    let sources = sources_of(alloc, &files, plan)?;
+    let gathered = Gathered::new(alloc)?;
+    let temporary = temporary_name(alloc, name)?;
+    if let Err(fault) = write_output(target, temporary.as_str(), name, &files, &sources, gathered) {
+        return Err(RestoreFault::Target(fault));
+    }
+    Ok(Restored {
+        txid: last_txid(plan),
+        pages: sources.len() as u32,
+    })
 }

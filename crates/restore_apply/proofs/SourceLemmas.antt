@@ -1,0 +1,314 @@
+-- The sources of pages, through one change and another.
+use Rattle.std.proofs.Common.{◌≡◌, ◌≢◌, ℕ, zero, suc, ◌+◌, ◌-◌, ◌^◌, ◌<◌, ◌≤◌, List, [], ◌∷◌, ◌++◌, map, length, get_or, take, drop, Option, Some, None, refl, sym, ap, subst, ◌∙◌, add-one, inl, inr, arith}
+use Rattle.std.specs.Prelude.{unwrap_or, slice_get, ◌⊎◌, IsSome, is_some, option_map, option_and_then}
+use Rattle.std.specs.List.{concat, range_with_len, AllByRecursion}
+use Rattle.std.specs.Option.{option_or}
+use Rattle.std.specs.FinMap.{get}
+use Rattle.std.proofs.lemmas.List.{append-nil, take_more, same_lists, get_or_default, length_push, map_push}
+use Rattle.std.proofs.lemmas.List.FromFn.{map-range_with_len_more, get_or-map-range_with_len, length-map-range_with_len}
+use Rattle.std.proofs.lemmas.Bool.{cases_lt}
+use Rattle.std.proofs.lemmas.Option.{slice_get-get_or, slice_get_past, slice_get_within, unwrap_or-slice_get, get_or_from_slice_get}
+use Rattle.std.proofs.Math.Nat.{pow-le-pow_right}
+use Rattle.ls_base.specs.PageSize.{IsPageSize}
+use Rattle.ls_base.specs.State.{State, empty_state, state_bytes}
+use Rattle.ls_base.specs.Change.{Change, IsApplicable, apply, page_after, page_of}
+use Rattle.ltx_format.specs.declared.file.LtxFile.{LtxFile}
+use Rattle.ltx_format.specs.LtxFormat.{change_of}
+use Rattle.replica_store.specs.Applying.{AppliesTo, MakeState, LacksPage}
+use Rattle.replica_store.specs.FileOf.{HavePageSize}
+use Rattle.replica_store.specs.declared.file_name.FileName.{FileName}
+use Rattle.restore_apply.specs.declared.restored.RestoreFault.{RestoreFault}
+use Rattle.restore_apply.specs.declared.restored.RestoreFault.TheVariants.{Damaged, PageMissing, Store, Target, Memory}
+use Rattle.restore_apply.specs.PlanFiles.{IsFormed}
+use Rattle.restore_apply.specs.Sources.{page_in, sourced_page, sourced_bytes, AreSourcesOf, MakeSources, source_after, FollowSources, LacksSource, IsMissingAt, ExplainsFollow, ExplainsSources, HaveOneSize, HoldsEachPage}
+use Rattle.restore_apply.proofs.PlanLemmas.{all_at}
+use Rattle.restore_apply.proofs.StagingLemmas.{concat-append}
+
+-- ---- options
+
+has : {X : Type 0} (o : Option X) → IsSome o → (x : X) × (o ≡ Some x)
+has None h = absurd cc
+has (Some x) h = (x, refl)
+
+is_there : {X : Type 0} (o : Option X) (x : X) → o ≡ Some x → IsSome o
+is_there o x e = ap is_some e
+
+some_unwrapped : (o : Option (List ℕ)) → IsSome o → o ≡ Some (unwrap_or o [])
+some_unwrapped None h = absurd cc
+some_unwrapped (Some x) h = refl
+
+-- an element that is there
+pub there_at : {X : Type 0} (xs : List X) (at : ℕ) → at < length xs → IsSome (slice_get xs at)
+there_at [] at below = absurd (omega (arith, below))
+there_at (x ∷ xs) zero below = refl
+there_at (x ∷ xs) (suc at) below = there_at xs at (omega (arith, below))
+
+-- ---- one source more
+
+left_of_push : {X : Type 0} (xs : List X) (y : X) (k : ℕ) → k < length xs → slice_get (xs ++ y ∷ []) k ≡ slice_get xs k
+left_of_push [] y k below = absurd (omega (arith, below))
+left_of_push (x ∷ xs) y zero below = refl
+left_of_push (x ∷ xs) y (suc k) below = left_of_push xs y k (omega (arith, below))
+
+end_of_push : {X : Type 0} (xs : List X) (y : X) (k : ℕ) → k ≡ length xs → slice_get (xs ++ y ∷ []) k ≡ Some y
+end_of_push [] y zero e = refl
+end_of_push [] y (suc k) e = absurd (omega (arith, e))
+end_of_push (x ∷ xs) y zero e = absurd (omega (arith, e))
+end_of_push (x ∷ xs) y (suc k) e = end_of_push xs y k (omega (arith, e))
+
+pub follow_none : (sources : List ℕ) (c : Change) (place : ℕ) (after : List ℕ) → after ≡ [] → FollowSources sources c place 0 after
+follow_none sources c place after none = record { count_is = ap length none; each = λ at below. absurd (omega (arith, below)) }
+
+each_more : (sources : List ℕ) (c : Change) (place at source : ℕ) (after : List ℕ) → FollowSources sources c place at after → source_after sources c place at ≡ Some source
+    → (k : ℕ) → k < at + 1 → ((k < at) ⊎ (at ≤ k)) → source_after sources c place k ≡ slice_get (after ++ source ∷ []) k
+each_more sources c place at source after so_far is k below (inl before) = so_far.each k before ∙ sym (left_of_push after source k (omega (arith, before, so_far.count_is)))
+each_more sources c place at source after so_far is k below (inr late) =
+    let same : k ≡ at = omega (arith, below, late) in
+    ap (source_after sources c place) same ∙ is ∙ sym (end_of_push after source k (omega (arith, same, so_far.count_is)))
+
+pub follow_next : (sources : List ℕ) (c : Change) (place at source : ℕ) (after : List ℕ) → FollowSources sources c place at after → source_after sources c place at ≡ Some source
+    → FollowSources sources c place (at + 1) (after ++ source ∷ [])
+follow_next sources c place at source after so_far is = record {
+  count_is = length_push after source ∙ ap (λ (n : ℕ). n + 1) so_far.count_is;
+  each = λ k below. each_more sources c place at source after so_far is k below (cases_lt k at);
+}
+
+pub lacks_source : (sources : List ℕ) (c : Change) (place at : ℕ) (after : List ℕ) → FollowSources sources c place at after → at < c.commit → source_after sources c place at ≡ None
+    → LacksSource sources c place (at + 1)
+lacks_source sources c place at after so_far within missing = record {
+  at = at;
+  number_is = refl;
+  within = within;
+  missing = missing;
+  least = λ k below. subst (λ (o : Option ℕ). IsSome o) (sym (so_far.each k below)) (there_at after k (omega (arith, below, so_far.count_is)));
+}
+
+-- ---- the page that a source tells
+
+page_in_file : (files : List LtxFile) (number place : ℕ) (file : LtxFile) → slice_get files place ≡ Some file → page_in files number place ≡ get file.pages number
+page_in_file files number place file is = ap (option_and_then (λ (f : LtxFile). get f.pages number)) is
+
+-- at each place the sources tell the page of the state, past the end too
+sourced_any : (files : List LtxFile) (sources : List ℕ) (s : State) → AreSourcesOf files sources s → (at : ℕ) → ((at < length sources) ⊎ (length sources ≤ at)) → sourced_page files sources at ≡ slice_get s.pages at
+sourced_any files sources s are at (inl within) = are.each at within
+sourced_any files sources s are at (inr past) =
+    ap (option_and_then (page_in files (at + 1))) (slice_get_past sources at past) ∙ sym (slice_get_past s.pages at (omega (arith, past, are.count)))
+
+page_or : (f : ℕ → Option (List ℕ)) (place : ℕ) (new page : Option (List ℕ)) (old : Option ℕ) → f place ≡ new → option_and_then f old ≡ page
+    → option_and_then f (option_or (option_map (λ _. place) new) old) ≡ option_or new page
+page_or f place None page old here before = before
+page_or f place (Some x) page old here before = here
+
+page_of_next : (s : State) (at : ℕ) → page_of s (at + 1) ≡ slice_get s.pages at
+page_of_next s at = rw add-one refl
+
+-- the page of a source after the change is the page after the change
+page_follows : (files : List LtxFile) (sources : List ℕ) (s : State) (place : ℕ) (file : LtxFile) → AreSourcesOf files sources s → slice_get files place ≡ Some file
+    → (at : ℕ) → option_and_then (page_in files (at + 1)) (source_after sources (change_of file) place at) ≡ page_after s (change_of file) (at + 1)
+page_follows files sources s place file are is at =
+    page_or (page_in files (at + 1)) place (get file.pages (at + 1)) (page_of s (at + 1)) (slice_get sources at) (page_in_file files (at + 1) place file is)
+    (sourced_any files sources s are at (cases_lt at (length sources)) ∙ sym (page_of_next s at))
+
+or_some : (place : ℕ) (new page : Option (List ℕ)) (old : Option ℕ) → (IsSome old → IsSome page) → IsSome (option_or (option_map (λ _. place) new) old) → IsSome (option_or new page)
+or_some place None page old carries some = carries some
+or_some place (Some x) page old carries some = refl
+
+-- a page with a source after the change is there after the change
+page_has_source : (files : List LtxFile) (sources : List ℕ) (s : State) (place : ℕ) (file : LtxFile) → AreSourcesOf files sources s
+    → (at : ℕ) → IsSome (source_after sources (change_of file) place at) → IsSome (page_after s (change_of file) (at + 1))
+page_has_source files sources s place file are at some =
+    or_some place (get file.pages (at + 1)) (page_of s (at + 1)) (slice_get sources at)
+    (λ old.
+    let source = has (slice_get sources at) old in
+    let within : at < length s.pages = omega (arith, slice_get_within sources at source.0 source.1, are.count) in
+    subst (λ (o : Option (List ℕ)). IsSome o) (sym (page_of_next s at)) (there_at s.pages at within))
+    some
+
+-- a page without a source after the change is missing
+pub lacks_page : (files : List LtxFile) (sources : List ℕ) (s : State) (place number : ℕ) (file : LtxFile) → AreSourcesOf files sources s → slice_get files place ≡ Some file
+    → LacksSource sources (change_of file) place number → LacksPage s (change_of file) number
+lacks_page files sources s place number file are is lacks =
+    let c = change_of file in
+    subst (LacksPage s c) (sym lacks.number_is) (record {
+      positive = omega arith;
+      within = omega (arith, lacks.within);
+      missing = sym (page_follows files sources s place file are is lacks.at) ∙ ap (option_and_then (page_in files (lacks.at + 1))) lacks.missing;
+      least = λ p low below.
+          let back : p - 1 + 1 ≡ p = omega (arith, low) in
+          subst (λ (n : ℕ). IsSome (page_after s c n)) back (page_has_source files sources s place file are (p - 1) (lacks.least (p - 1) (omega (arith, low, below))));
+    })
+
+-- ---- states
+
+pub applies_then : (s mid : State) (changes : List Change) (c : Change) → AppliesTo s changes mid → IsApplicable mid c → AppliesTo s (changes ++ c ∷ []) (apply mid c)
+applies_then s mid [] c same fits = (subst (λ (t : State). IsApplicable t c) (sym same) fits, ap (λ (t : State). apply t c) same)
+applies_then s mid (d ∷ changes) c (first, rest) fits = (first, applies_then (apply s d) mid changes c rest fits)
+
+same_number : (a b : ℕ) → ◌≡◌ {A = Option ℕ} (Some a) (Some b) → a ≡ b
+same_number a b e = cc
+
+-- the state that files of one page size make has it
+pub size_kept : (size : ℕ) (s after : State) (files : List LtxFile) → ((n : ℕ) → s.page_size ≡ Some n → n ≡ size) → HavePageSize size files → AppliesTo s (map change_of files) after
+    → (n : ℕ) → after.page_size ≡ Some n → n ≡ size
+size_kept size s after [] before each same n is = before n (ap (λ (t : State). t.page_size) same ∙ is)
+size_kept size s after (file ∷ files) before (head, each) (fits, rest) n is =
+    size_kept size (apply s (change_of file)) after files (λ m e. sym (same_number _ _ e) ∙ head) each rest n is
+
+none_is_number : (n : ℕ) → ◌≡◌ {A = Option ℕ} None (Some n) → ⊥
+none_is_number n e = cc
+
+size_taken : (size : ℕ) (files : List LtxFile) (count : ℕ) → HavePageSize size files → HavePageSize size (take count files)
+size_taken size files zero each = tt
+size_taken size [] (suc count) each = tt
+size_taken size (file ∷ files) (suc count) (head, each) = (head, size_taken size files count each)
+
+-- page `at` after the change, in the list of its pages
+pages_at : (s : State) (c : Change) (at : ℕ) → at < c.commit → IsSome (page_after s c (at + 1)) → slice_get (apply s c).pages at ≡ page_after s c (at + 1)
+pages_at s c at below some =
+    let f = λ (p : ℕ). unwrap_or (page_after s c p) [] in
+    let count = length-map-range_with_len f 1 c.commit in
+    slice_get-get_or (map f (range_with_len 1 c.commit)) at [] (omega (arith, below, count))
+    ∙ ap (λ (page : List ℕ). Some page) (get_or-map-range_with_len f 1 c.commit at (at + 1) [] below (omega arith)) ∙ sym (some_unwrapped (page_after s c (at + 1)) some)
+
+module _ (files : List LtxFile) (sources after : List ℕ) (s : State) (place : ℕ) (file : LtxFile)
+    (are : AreSourcesOf files sources s) (is : slice_get files place ≡ Some file) (follow : FollowSources sources (change_of file) place file.header.commit after) where
+  followed_there : (at : ℕ) → at < file.header.commit → IsSome (page_after s (change_of file) (at + 1))
+  followed_there at below =
+      page_has_source files sources s place file are at (subst (λ (o : Option ℕ). IsSome o) (sym (follow.each at below)) (there_at after at (omega (arith, below, follow.count_is))))
+
+  pub followed_fits : (size : ℕ) → HavePageSize size files → MakeState (take place files) s → IsApplicable s (change_of file)
+  followed_fits size each makes = record {
+    same_size = λ n e.
+        size_kept size empty_state s (take place files) (λ m none. absurd (none_is_number m none)) (size_taken size files place each) makes n e
+        ∙ sym (all_at (λ (f : LtxFile). f.header.size ≡ size) files place file each is);
+    each = λ p low high.
+        let back : p - 1 + 1 ≡ p = omega (arith, low) in
+        subst (λ (n : ℕ). IsSome (page_after s (change_of file) n)) back (followed_there (p - 1) (omega (arith, low, high)));
+  }
+
+  pub followed_sources : AreSourcesOf files after (apply s (change_of file))
+  followed_sources = record {
+    count = follow.count_is ∙ sym (length-map-range_with_len (λ (p : ℕ). unwrap_or (page_after s (change_of file) p) []) 1 file.header.commit);
+    each = λ at below.
+        let within : at < file.header.commit = omega (arith, below, follow.count_is) in
+        ap (option_and_then (page_in files (at + 1))) (sym (follow.each at within)) ∙ page_follows files sources s place file are is at
+        ∙ sym (pages_at s (change_of file) at within (followed_there at within));
+  }
+
+taken_more : (files : List LtxFile) (place : ℕ) (file : LtxFile) → slice_get files place ≡ Some file → take (place + 1) files ≡ take place files ++ file ∷ []
+taken_more files place file is =
+    take_more files place file (slice_get_within files place file is) ∙ ap (λ (f : LtxFile). take place files ++ f ∷ []) (get_or_from_slice_get files place file file is)
+
+-- nothing has no sources
+pub make_none : (files : List LtxFile) (sources : List ℕ) → sources ≡ [] → MakeSources files 0 sources
+make_none files sources none = record {
+  state = empty_state;
+  makes = refl;
+  sourced = record { count = ap length none; each = λ at below. absurd (omega (arith, below, ap length none)) };
+}
+
+-- one file more
+pub make_next : (files : List LtxFile) (place : ℕ) (sources after : List ℕ) (file : LtxFile) → HaveOneSize files → MakeSources files place sources → slice_get files place ≡ Some file
+    → FollowSources sources (change_of file) place file.header.commit after → MakeSources files (place + 1) after
+make_next files place sources after file size made is follow =
+    let s = made.state in
+    let fits = followed_fits files sources after s place file made.sourced is follow size.size size.each made.makes in
+    record {
+      state = apply s (change_of file);
+      makes =
+          subst (λ (changes : List Change). AppliesTo empty_state changes (apply s (change_of file)))
+          (sym (ap (map change_of) (taken_more files place file is) ∙ map_push change_of (take place files) file))
+          (applies_then empty_state s (map change_of (take place files)) (change_of file) made.makes fits);
+      sourced = followed_sources files sources after s place file made.sourced is follow;
+    }
+
+pub missing_at : (plan : List FileName) (files : List LtxFile) (place number : ℕ) (sources : List ℕ) (file : LtxFile) (name : FileName) → MakeSources files place sources
+    → slice_get files place ≡ Some file → slice_get plan place ≡ Some name → LacksSource sources (change_of file) place number → IsMissingAt plan files name number
+missing_at plan files place number sources file name made is named lacks = record {
+  place = place;
+  file = file;
+  named = named;
+  is = is;
+  state = made.state;
+  makes = made.makes;
+  lacks = lacks_page files sources made.state place number file made.sourced is lacks;
+}
+
+-- ---- the bytes
+
+-- the page that is to stand at this place
+abbrev pub page_at : List LtxFile → List ℕ → ℕ → List ℕ
+page_at files sources at = unwrap_or (sourced_page files sources at) []
+
+-- the first n pages
+abbrev pub first_pages : List LtxFile → List ℕ → ℕ → List ℕ
+first_pages files sources n = concat (map (page_at files sources) (range_with_len 0 n))
+
+-- one page more
+pub first_pages-more : (files : List LtxFile) (sources : List ℕ) (n : ℕ) → first_pages files sources (n + 1) ≡ first_pages files sources n ++ page_at files sources n
+first_pages-more files sources n =
+    ap concat (map-range_with_len_more (page_at files sources) 0 n n (omega arith)) ∙ concat-append (map (page_at files sources) (range_with_len 0 n)) (page_at files sources n ∷ [])
+    ∙ ap (λ (last : List ℕ). first_pages files sources n ++ last) (append-nil (page_at files sources n))
+
+-- the bytes that the sources tell are those of the state
+pub bytes_are : (files : List LtxFile) (sources : List ℕ) (s : State) → AreSourcesOf files sources s → sourced_bytes files sources ≡ state_bytes s
+bytes_are files sources s are =
+    let count : length (map (page_at files sources) (range_with_len 0 (length sources))) ≡ length sources = length-map-range_with_len (page_at files sources) 0 (length sources) in
+    ap concat (same_lists (map (page_at files sources) (range_with_len 0 (length sources))) s.pages (count ∙ are.count) (λ k d below.
+    let within : k < length sources = omega (arith, below, count) in
+    get_or-map-range_with_len (page_at files sources) 0 (length sources) k k d within (omega arith) ∙ ap (λ (o : Option (List ℕ)). unwrap_or o []) (are.each k within)
+    ∙ unwrap_or-slice_get s.pages k [] ∙ get_or_default s.pages k [] d (omega (arith, within, are.count))))
+
+size_small : (n : ℕ) → IsPageSize n → n ≤ 65536
+size_small n (k, low, high, is) = let bound : 2 ^ k ≤ 2 ^ 16 = pow-le-pow_right {n = 2} (omega arith) high in omega (arith, is, bound)
+
+file_is : (at : ℕ) (page : List ℕ) (o : Option LtxFile) → option_and_then (λ (f : LtxFile). get f.pages (at + 1)) o ≡ Some page → (file : LtxFile) × (o ≡ Some file) × (get file.pages (at + 1) ≡ Some page)
+file_is at page None e = absurd cc
+file_is at page (Some file) e = (file, refl, e)
+
+-- the file that a page comes from
+pub source_is : (files : List LtxFile) (sources : List ℕ) (at : ℕ) (page : List ℕ) → at < length sources → sourced_page files sources at ≡ Some page
+    → (file : LtxFile) × (slice_get files (get_or sources at 0) ≡ Some file) × (get file.pages (at + 1) ≡ Some page)
+source_is files sources at page below is =
+    file_is at page (slice_get files (get_or sources at 0)) (sym (ap (option_and_then (page_in files (at + 1))) (slice_get-get_or sources at 0 below)) ∙ is)
+
+-- each page of the state is small
+pub each_page : (files : List LtxFile) (sources : List ℕ) (s : State) → AllByRecursion IsFormed files → AreSourcesOf files sources s → HoldsEachPage files sources
+each_page files sources s formed are = record {
+  there = λ at below.
+      let found = has (slice_get s.pages at) (there_at s.pages at (omega (arith, below, are.count))) in
+      let is : sourced_page files sources at ≡ Some found.0 = are.each at below ∙ found.1 in
+      let source = source_is files sources at found.0 below is in
+      let form = all_at IsFormed files (get_or sources at 0) source.0 formed source.1 in
+      (found.0, is, omega (arith, form.is.pages.sized (at + 1) found.0 source.2, size_small source.0.header.size form.is.header.size));
+}
+
+-- why a file has no sources is why the files have none
+pub explains_sources : (plan : List FileName) (files : List LtxFile) (place : ℕ) (sources : List ℕ) (file : LtxFile) (name : FileName) (fault : RestoreFault) → MakeSources files place sources
+    → slice_get files place ≡ Some file → slice_get plan place ≡ Some name → ExplainsFollow sources (change_of file) place name fault → ExplainsSources plan files fault
+explains_sources plan files place sources file name (Damaged other damage) made is named why = absurd why
+explains_sources plan files place sources file name (PageMissing other number) made is named (same, lacks) =
+    subst (λ (n : FileName). IsMissingAt plan files n number) (sym same) (missing_at plan files place number sources file name made is named lacks)
+explains_sources plan files place sources file name (Store fault) made is named why = absurd why
+explains_sources plan files place sources file name (Target fault) made is named why = absurd why
+explains_sources plan files place sources file name Memory made is named why = tt
+
+same_page : (a b : List ℕ) → ◌≡◌ {A = Option (List ℕ)} (Some a) (Some b) → a ≡ b
+same_page a b e = cc
+
+-- the page that a source has is there
+pub source_has : (files : List LtxFile) (sources : List ℕ) → HoldsEachPage files sources → (at : ℕ) → at < length sources → (file : LtxFile) → file ≡ get_or files (get_or sources at 0) file
+    → (page : List ℕ) × (get file.pages (at + 1) ≡ Some page) × (sourced_page files sources at ≡ Some page) × (length page ≤ 65536)
+source_has files sources holds at below file is =
+    let found = holds.there at below in
+    let source = source_is files sources at found.0 below found.1 in
+    let same : source.0 ≡ file = sym (is ∙ get_or_from_slice_get files (get_or sources at 0) source.0 file source.1) in
+    (found.0, subst (λ (f : LtxFile). get f.pages (at + 1) ≡ Some found.0) same source.2, found.1, found.2)
+
+-- and it is the one that is to stand there
+pub source_page : (files : List LtxFile) (sources : List ℕ) → HoldsEachPage files sources → (at : ℕ) → at < length sources → (file : LtxFile) → file ≡ get_or files (get_or sources at 0) file
+    → (page : List ℕ) → get file.pages (at + 1) ≡ Some page → (page_at files sources at ≡ page) × (length page ≤ 65536)
+source_page files sources holds at below file is page found =
+    let has = source_has files sources holds at below file is in
+    let same : has.0 ≡ page = same_page has.0 page (sym has.1 ∙ found) in
+    (ap (λ (o : Option (List ℕ)). unwrap_or o []) has.2 ∙ same, subst (λ (b : List ℕ). length b ≤ 65536) same has.3)
