@@ -4,3 +4,4 @@ pub mod StagingLemmas
 pub mod StopLemmas
 pub mod OutputLemmas
 pub mod RestoreLemmas
+pub mod Theorems

@@ -1,13 +1,12 @@
 -- What the steps of writing an output leave at each name.
-use Rattle.std.proofs.Common.{◌≡◌, ◌≢◌, ℕ, ◌+◌, List, [], ◌∷◌, ◌++◌, length, Option, Some, None, refl, sym, ap, subst, ◌∙◌, inl, inr, arith}
+use Rattle.std.proofs.Common.{◌≡◌, ◌≢◌, ℕ, List, [], ◌∷◌, length, Option, Some, None, sym, ap, ◌∙◌, inl, inr, arith}
 use Rattle.std.specs.Prelude.{codes, ◌⊎◌}
-use Rattle.std.specs.List.{concat}
 use Rattle.std.proofs.lemmas.List.{length-append}
 use Rattle.crash_disk.specs.declared.event.Event.{Event}
-use Rattle.crash_disk.specs.declared.event.Event.TheVariants.{Created, Appended, Synced, Renamed, Removed, NamesSynced}
+use Rattle.crash_disk.specs.declared.event.Event.TheVariants.{Created, Synced}
 use Rattle.crash_disk.specs.Files.{file_at}
 use Rattle.crash_disk.specs.FileLaws.{file_at-Created-here, file_at-Created-other, file_at-Synced, file_at-NamesSynced, file_at-Renamed-to, file_at-Renamed-from, file_at-Renamed-other, file_at-Removed-other}
-use Rattle.restore_apply.specs.Staging.{appended, temporary_name, MayBegin, Begins, Fills, Names, MayName, Began, Synchronized, Named, Settles, MaySettle, Left, Cleared, WritesFile, MayWriteFile}
+use Rattle.restore_apply.specs.Staging.{temporary_name, MayBegin, Fills, Names, MayName, Began, Synchronized, Named, Settles, MaySettle, Left, Cleared, WritesFile, MayWriteFile}
 use Rattle.restore_apply.proofs.StopLemmas.{stop_may_name, stop_settled, settled_stays, stop_cleared}
 use Rattle.restore_apply.proofs.StagingLemmas.{file_at-appended-here, file_at-appended-other}
 

@@ -16,7 +16,7 @@ use Rattle.replica_store.specs.Listing.{path_of, bytes_under}
 use Rattle.restore_apply.specs.declared.restored.RestoreFault.{RestoreFault}
 use Rattle.restore_apply.specs.declared.restored.RestoreFault.TheVariants.{Damaged, PageMissing, Store, Target, Memory}
 use Rattle.restore_apply.specs.PlanFiles.{FitsSize, IsDamageUnder, IsLastOf, ExplainsRead, ExplainsReads}
-use Rattle.restore_apply.specs.Restoring.{IsFirstDamaged}
+use Rattle.restore_apply.specs.Restoring.{IsOnlyFileUnder, AreOnlyFilesUnder, IsFirstDamaged}
 use Rattle.restore_apply.specs.Sources.{HaveOneSize}
 
 -- the page size of the files so far, where there is one
@@ -61,6 +61,19 @@ pub files_more : (events : List Event) (plan : List FileName) (at : ℕ) (files 
 files_more events plan at files name file below is-name are is =
     let taken : take (at + 1) plan ≡ take at plan ++ name ∷ [] = take_more plan at name below ∙ ap (λ (n : FileName). take at plan ++ n ∷ []) (sym is-name) in
     subst (λ (names : List FileName). AreFilesUnder events names (files ++ file ∷ [])) (sym taken) (files_next events (take at plan) files name file are is)
+
+only_next : (events : List Event) (names : List FileName) (files : List LtxFile) (name : FileName) (file : LtxFile)
+    → AreOnlyFilesUnder events names files → IsOnlyFileUnder events name file → AreOnlyFilesUnder events (names ++ name ∷ []) (files ++ file ∷ [])
+only_next events [] [] name file are is = (is, tt)
+only_next events [] (f ∷ files) name file are is = absurd are
+only_next events (n ∷ names) [] name file are is = absurd are
+only_next events (n ∷ names) (f ∷ files) name file (head, are) is = (head, only_next events names files name file are is)
+
+pub only_more : (events : List Event) (plan : List FileName) (at : ℕ) (files : List LtxFile) (name : FileName) (file : LtxFile) → at < length plan → name ≡ get_or plan at name
+    → AreOnlyFilesUnder events (take at plan) files → IsOnlyFileUnder events name file → AreOnlyFilesUnder events (take (at + 1) plan) (files ++ file ∷ [])
+only_more events plan at files name file below is-name are is =
+    let taken : take (at + 1) plan ≡ take at plan ++ name ∷ [] = take_more plan at name below ∙ ap (λ (n : FileName). take at plan ++ n ∷ []) (sym is-name) in
+    subst (λ (names : List FileName). AreOnlyFilesUnder events names (files ++ file ∷ [])) (sym taken) (only_next events (take at plan) files name file are is)
 
 pub size_of_wanted : (wanted : Option ℕ) (files : List LtxFile) → IsWanted wanted files → HavePageSize (unwrap_or wanted 0) files
 size_of_wanted None files is = subst (λ (fs : List LtxFile). HavePageSize 0 fs) (sym is) tt

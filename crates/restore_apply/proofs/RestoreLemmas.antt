@@ -1,5 +1,5 @@
 -- What a restore of a plan makes, from what its parts give.
-use Rattle.std.proofs.Common.{◌≡◌, ℕ, zero, suc, ◌+◌, ◌<◌, ◌≤◌, List, [], ◌∷◌, ◌++◌, length, get_or, take, drop, Option, Some, None, refl, sym, ap, subst, ◌∙◌, arith}
+use Rattle.std.proofs.Common.{◌≡◌, ℕ, zero, suc, ◌+◌, List, [], ◌∷◌, length, take, drop, Some, refl, sym, ap, subst, ◌∙◌, arith}
 use Rattle.std.specs.Prelude.{slice_get}
 use Rattle.std.proofs.lemmas.List.{take_all}
 use Rattle.std.proofs.lemmas.Option.{slice_get_within, get_or_from_slice_get}
@@ -14,22 +14,22 @@ use Rattle.replica_store.specs.FileOf.{IsFileUnder, AreFilesUnder}
 use Rattle.replica_store.specs.declared.file_name.FileName.{FileName}
 use Rattle.restore_apply.specs.declared.restored.RestoreFault.{RestoreFault}
 use Rattle.restore_apply.specs.declared.restored.RestoreFault.TheVariants.{Damaged, PageMissing, Store, Target, Memory}
-use Rattle.restore_apply.specs.Restoring.{ArePlanFiles, Makes, IsFirstMissing, ExplainsRestore}
+use Rattle.restore_apply.specs.Restoring.{AreOnlyFilesUnder, ArePlanFiles, Makes, IsFirstMissing, ExplainsRestore}
 use Rattle.restore_apply.specs.Sources.{sourced_bytes, AreSourcesOf, MakeSources, IsMissingAt, ExplainsSources, HaveOneSize}
 use Rattle.restore_apply.specs.Staging.{Settles, MaySettle, WritesFile, MayWriteFile}
 use Rattle.restore_apply.proofs.OutputLemmas.{writes-from_settles, may_write-from_may_settle}
 use Rattle.restore_apply.proofs.PlanLemmas.{split_at}
 use Rattle.restore_apply.proofs.SourceLemmas.{bytes_are}
 
-are_plan_files : (events : List Event) (plan : List FileName) (files : List LtxFile) → AreFilesUnder events plan files → HaveOneSize files → ArePlanFiles events plan files
-are_plan_files events plan files are size = record { read = are; size = size.size; one_size = size.each }
+are_plan_files : (events : List Event) (plan : List FileName) (files : List LtxFile) → AreFilesUnder events plan files → AreOnlyFilesUnder events plan files → HaveOneSize files → ArePlanFiles events plan files
+are_plan_files events plan files are only size = record { read = are; only = only; size = size.size; one_size = size.each }
 
 -- the files of the plan make the state of the sources
-pub makes_of : (events : List Event) (plan : List FileName) (files : List LtxFile) (sources : List ℕ) (made : MakeSources files (length files) sources) → AreFilesUnder events plan files → HaveOneSize files
-    → Makes events plan made.state
-makes_of events plan files sources made are size = record {
+pub makes_of : (events : List Event) (plan : List FileName) (files : List LtxFile) (sources : List ℕ) (made : MakeSources files (length files) sources) → AreFilesUnder events plan files
+    → AreOnlyFilesUnder events plan files → HaveOneSize files → Makes events plan made.state
+makes_of events plan files sources made are only size = record {
   files = files;
-  are = are_plan_files events plan files are size;
+  are = are_plan_files events plan files are only size;
   makes = subst (λ (fs : List LtxFile). MakeState fs made.state) (take_all (length files) files (omega arith)) made.makes;
 }
 
@@ -52,11 +52,11 @@ file_under events (n ∷ plan) (f ∷ files) zero name file (head, are) named is
     subst (λ (m : FileName). IsFileUnder events m file) same_name (subst (λ (g : LtxFile). IsFileUnder events n g) same_file head)
 file_under events (n ∷ plan) (f ∷ files) (suc place) name file (head, are) named is = file_under events plan files place name file are named is
 
-first_missing : (events : List Event) (plan : List FileName) (files : List LtxFile) (name : FileName) (number : ℕ) → AreFilesUnder events plan files → HaveOneSize files → IsMissingAt plan files name number
-    → IsFirstMissing events plan name number
-first_missing events plan files name number are size missing = record {
+first_missing : (events : List Event) (plan : List FileName) (files : List LtxFile) (name : FileName) (number : ℕ) → AreFilesUnder events plan files → AreOnlyFilesUnder events plan files
+    → HaveOneSize files → IsMissingAt plan files name number → IsFirstMissing events plan name number
+first_missing events plan files name number are only size missing = record {
   files = files;
-  are = are_plan_files events plan files are size;
+  are = are_plan_files events plan files are only size;
   before = take missing.place plan;
   after = drop (missing.place + 1) plan;
   split = split_at plan missing.place name (slice_get_within plan missing.place name missing.named) (sym (get_or_from_slice_get plan missing.place name name missing.named));
@@ -71,14 +71,14 @@ first_missing events plan files name number are size missing = record {
 
 -- why the files have no sources is why nothing was restored
 pub explains_missing : (store : Told) (plan : List FileName) (name : List ℕ) (target : Told) (store_before store_now target_before target_now : ℕ) (files : List LtxFile) (fault : RestoreFault)
-    → IfTold store (λ events. AreFilesUnder events plan files) → HaveOneSize files → ExplainsSources plan files fault
+    → IfTold store (λ events. AreFilesUnder events plan files) → IfTold store (λ events. AreOnlyFilesUnder events plan files) → HaveOneSize files → ExplainsSources plan files fault
     → ExplainsRestore store plan name target target store_before store_now target_before target_now fault
-explains_missing store plan name target store_before store_now target_before target_now files (Damaged other damage) are size why = absurd why
-explains_missing store plan name target store_before store_now target_before target_now files (PageMissing other number) are size why =
-    (refl, λ events e. first_missing events plan files other number (are events e) size why)
-explains_missing store plan name target store_before store_now target_before target_now files (Store fault) are size why = absurd why
-explains_missing store plan name target store_before store_now target_before target_now files (Target fault) are size why = absurd why
-explains_missing store plan name target store_before store_now target_before target_now files Memory are size why = refl
+explains_missing store plan name target store_before store_now target_before target_now files (Damaged other damage) are only size why = absurd why
+explains_missing store plan name target store_before store_now target_before target_now files (PageMissing other number) are only size why =
+    (refl, λ events e. first_missing events plan files other number (are events e) (only events e) size why)
+explains_missing store plan name target store_before store_now target_before target_now files (Store fault) are only size why = absurd why
+explains_missing store plan name target store_before store_now target_before target_now files (Target fault) are only size why = absurd why
+explains_missing store plan name target store_before store_now target_before target_now files Memory are only size why = refl
 
 -- the bytes of sources that were lent
 lent_bytes : (files lent : List LtxFile) (sources sources_lent : List ℕ) (s : State) → lent ≡ files → sources_lent ≡ sources → AreSourcesOf files sources s → sourced_bytes lent sources_lent ≡ state_bytes s

@@ -1,6 +1,6 @@
 -- How the record of a disk goes on while an output is staged.
 use Rattle.std.proofs.Common.{◌≡◌, ◌≢◌, ℕ, List, [], ◌∷◌, ◌++◌, take, Option, Some, None, refl, sym, ap, subst, ◌∙◌, append_assoc, inl, inr}
-use Rattle.std.specs.Prelude.{◌⊎◌, option_map, IsSome, is_some, Result, Ok, Err, OnOk, OnErr}
+use Rattle.std.specs.Prelude.{option_map, IsSome, is_some, Result, Ok, Err, OnOk, OnErr}
 use Rattle.std.specs.List.{concat}
 use Rattle.std.proofs.lemmas.List.{append-nil}
 use Rattle.crash_disk.specs.declared.event.Event.{Event}
@@ -10,7 +10,7 @@ use Rattle.crash_disk.specs.Files.{IsThere, file_at}
 use Rattle.crash_disk.specs.FileLaws.{file_at-Created-here, file_at-Appended-here, file_at-Appended-other, file_at-Synced}
 use Rattle.crash_disk.specs.GoesOn.{GoesOn}
 use Rattle.crash_disk.proofs.GoesOnLemmas.{goes_on-gains, goes_on-same, goes_on-then, goes_on-weaker}
-use Rattle.restore_apply.specs.Staging.{appended, OnlyAppends, AppendsGathered, temporary_name, MayBegin, Begins, Fills, Names, MayName, Began, Synchronized, Named, Settles, MaySettle, Left, Cleared}
+use Rattle.restore_apply.specs.Staging.{appended, OnlyAppends, AppendsGathered, temporary_name, MayBegin, Fills, Names, MayName, Began, Synchronized, Named, Settles, MaySettle, Left, Cleared}
 
 -- two more
 goes_on-gains_two : (old mid new : Told) (first second : Event) → mid ≡ gains old first → new ≡ gains mid second → GoesOn old new (λ x y. y ≡ second ∷ first ∷ x)

@@ -1,18 +1,17 @@
 -- What the steps of writing an output leave where the machine stops.
 use Rattle.std.proofs.Common.{◌≡◌, ◌≢◌, ℕ, ◌≤◌, List, [], ◌∷◌, ◌++◌, length, Option, Some, None, refl, sym, ap, subst, ◌∙◌, append_assoc, inl, inr, arith}
-use Rattle.std.specs.Prelude.{◌⊎◌, IfSome}
+use Rattle.std.specs.Prelude.{IfSome}
 use Rattle.std.specs.List.{concat}
 use Rattle.std.specs.FinMap.{get}
 use Rattle.std.proofs.lemmas.List.{append-nil}
 use Rattle.crash_disk.specs.declared.event.Event.{Event}
-use Rattle.crash_disk.specs.declared.event.Event.TheVariants.{Created, Appended, Synced, Renamed, Removed, NamesSynced}
+use Rattle.crash_disk.specs.declared.event.Event.TheVariants.{Synced, Renamed, Removed, NamesSynced}
 use Rattle.crash_disk.specs.CrashLaws.{joined, drafted}
-use Rattle.crash_disk.specs.Files.{Files}
 use Rattle.crash_disk.specs.Images.{IsCrashImage, WasCrashImageSince}
 use Rattle.crash_disk.specs.ImageSteps.{MayStandAt-Removed-other}
 use Rattle.crash_disk.specs.Moments.{since_now, since_more, since_start}
 use Rattle.crash_disk.specs.PutTheorem.{image_with, since_drafted, since_whole, since_named, put_leaves, put_is_safe}
-use Rattle.restore_apply.specs.Staging.{appended, temporary_name, MayBegin, Begins, Fills, Names, MayName, Began, Synchronized, Named, Settles, MaySettle, Left, Cleared}
+use Rattle.restore_apply.specs.Staging.{appended, MayBegin, Fills, Names, MayName, Began, Synchronized, Named}
 use Rattle.restore_apply.specs.Stop.{LeavesNothing, LeavesAtMost, Leaves}
 
 -- nothing is at most anything

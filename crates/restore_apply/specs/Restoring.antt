@@ -4,9 +4,11 @@ use Rattle.crash_disk.specs.declared.event.Event.{Event}
 use Rattle.crash_disk.specs.Fault.{Rose}
 use Rattle.crash_disk.specs.GoesOn.{GoesOn}
 use Rattle.crash_disk.specs.Told.{Told, IfTold}
+use Rattle.ls_base.specs.Change.{Change}
 use Rattle.ls_base.specs.State.{State, state_bytes}
 use Rattle.ltx_format.specs.declared.file.LtxFile.{LtxFile}
-use Rattle.ltx_format.specs.LtxFormat.{change_of}
+use Rattle.ltx_format.specs.declared.header.LtxHeader.{LtxHeader}
+use Rattle.ltx_format.specs.LtxFormat.{IsLtxFile, change_of}
 use Rattle.replica_store.specs.declared.error.Damage.{Damage}
 use Rattle.replica_store.specs.declared.error.Damage.TheVariants.{SizeDiffers}
 use Rattle.replica_store.specs.declared.file_name.FileName.{FileName}
@@ -18,9 +20,22 @@ use Rattle.restore_apply.specs.declared.restored.RestoreFault.{RestoreFault}
 use Rattle.restore_apply.specs.declared.restored.RestoreFault.TheVariants.{Damaged, PageMissing, Store, Target, Memory}
 use Rattle.restore_apply.specs.Staging.{WritesFile, MayWriteFile}
 
--- the files under the names of the plan, all of one page size
+-- the bytes under the name are no other file
+abbrev pub IsOnlyFileUnder : List Event → FileName → LtxFile → Type 0
+IsOnlyFileUnder events name file =
+    (header : LtxHeader) (change : Change) → IsLtxFile (bytes_under events (path_of name)) header change → (file.header ≡ header) × (change_of file ≡ change)
+
+-- the same of each name and its file
+abbrev pub AreOnlyFilesUnder : List Event → List FileName → List LtxFile → Type 0
+AreOnlyFilesUnder events [] [] = Unit {0}
+AreOnlyFilesUnder events [] (file ∷ files) = ⊥
+AreOnlyFilesUnder events (name ∷ names) [] = ⊥
+AreOnlyFilesUnder events (name ∷ names) (file ∷ files) = IsOnlyFileUnder events name file × AreOnlyFilesUnder events names files
+
+-- the files under the names of the plan, all of one page size, and no others
 pub record ArePlanFiles (events : List Event) (plan : List FileName) (files : List LtxFile) : Type 0 where
   pub read : AreFilesUnder events plan files
+  pub only : AreOnlyFilesUnder events plan files
   pub size : ℕ
   pub one_size : HavePageSize size files
 

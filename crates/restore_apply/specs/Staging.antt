@@ -1,9 +1,8 @@
 -- How an output is written: pieces are gathered and appended to a temporary file, which then gets the name.
-use Rattle.std.specs.Prelude.{◌≡◌, ◌≢◌, ℕ, List, [], ◌∷◌, ◌++◌, codes, Option, Some, None, ◌⊎◌}
+use Rattle.std.specs.Prelude.{◌≡◌, ◌≢◌, ℕ, List, [], ◌∷◌, ◌++◌, codes, Some, None, ◌⊎◌}
 use Rattle.std.specs.List.{concat}
 use Rattle.crash_disk.specs.declared.event.Event.{Event}
 use Rattle.crash_disk.specs.declared.event.Event.TheVariants.{Created, Appended, Synced, Renamed, Removed, NamesSynced}
-use Rattle.crash_disk.specs.GoesOn.{GoesOn}
 use Rattle.crash_disk.specs.Files.{file_at}
 use Rattle.restore_apply.specs.Stop.{LeavesNothing, LeavesAtMost, Leaves}
 

@@ -1,10 +1,10 @@
-use Rattle.std.proofs.Common.{◌≡◌, [], ◌++◌, List, ℕ, subst, sym}
+use Rattle.std.proofs.Common.{List, ℕ, subst}
 use Rattle.std.proofs.lemmas.Result.{on_err_weaker, on_ok_weaker}
 use Rattle.restore_apply.specs.Sources.{sourced_bytes}
 use Rattle.crash_disk.proofs.GoesOnLemmas.{goes_on-then, goes_on-weaker}
 use Rattle.crash_disk.specs.GoesOn.{GoesOn}
-use Rattle.restore_apply.specs.Staging.{OnlyAppends, AppendsGathered, Fills, MayBegin}
-use Rattle.restore_apply.proofs.StagingLemmas.{only_appends, only_appends-then, still_there, there_once_created, filled, there_once_filled, begun-not_created, begun-only_appends, err_leaves}
+use Rattle.restore_apply.specs.Staging.{OnlyAppends, AppendsGathered}
+use Rattle.restore_apply.proofs.StagingLemmas.{only_appends, only_appends-then, still_there, there_once_created, filled, there_once_filled, begun-only_appends}
 use Rattle.restore_apply.proofs.output.fill.Goals as goal
 
 pub put_pages-requires-clause-there : goal.put_pages-requires-clause-there

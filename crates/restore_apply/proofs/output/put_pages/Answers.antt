@@ -1,7 +1,6 @@
 use Rattle.std.proofs.Common.{◌≡◌, ◌+◌, ◌++◌, List, ℕ, Some, None, sym, ap, subst, ◌∙◌, arith}
 use Rattle.std.specs.FinMap.{get}
 use Rattle.std.proofs.lemmas.Option.{slice_get_within}
-use Rattle.crash_disk.specs.GoesOn.{GoesOn}
 use Rattle.crash_disk.proofs.GoesOnLemmas.{goes_on-then, goes_on-weaker}
 use Rattle.restore_apply.specs.Staging.{OnlyAppends, AppendsGathered}
 use Rattle.restore_apply.proofs.StagingLemmas.{gathers-then, only_appends, only_appends-then, still_there, err_leaves}

@@ -3,7 +3,7 @@ use Rattle.crash_disk.specs.declared.event.Event.TheVariants.{Removed}
 use Rattle.crash_disk.specs.Told.{GainsOrNot}
 use Rattle.restore_apply.specs.Sources.{sourced_bytes}
 use Rattle.crash_disk.specs.GoesOn.{GoesOn}
-use Rattle.restore_apply.specs.Staging.{MayName, temporary_name}
+use Rattle.restore_apply.specs.Staging.{MayName}
 use Rattle.restore_apply.proofs.StagingLemmas.{cleared, tried}
 use Rattle.restore_apply.proofs.output.write_output.Goals as goal
 

@@ -1,4 +1,4 @@
-use Rattle.std.proofs.Common.{refl, sym, ◌∙◌, ◌≡◌, ◌≢◌, inl, inr}
+use Rattle.std.proofs.Common.{refl, ◌∙◌, ◌≢◌, inl, inr}
 use Rattle.std.specs.Prelude.{unwrap_or}
 use Rattle.restore_apply.proofs.PlanLemmas.{differ, alike, misnamed, missized}
 use Rattle.restore_apply.proofs.reading.file_of.Goals as goal

@@ -1,6 +1,4 @@
-use Rattle.std.proofs.Common.{sym, ◌∙◌}
-use Rattle.crash_disk.specs.GoesOn.{GoesOn}
-use Rattle.restore_apply.specs.Staging.{OnlyAppends}
+use Rattle.std.proofs.Common.{◌∙◌}
 use Rattle.restore_apply.proofs.StagingLemmas.{append_gathered, append_failed, err_leaves}
 use Rattle.restore_apply.proofs.gathered.Gathered.flush.Goals as goal
 
