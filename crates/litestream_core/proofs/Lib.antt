@@ -1,1 +1,5 @@
 pub mod RequestLemmas
+pub mod NewestLemmas
+pub mod PlanLemmas
+pub mod CommandLemmas
+pub mod Theorems

@@ -7,7 +7,7 @@ use Rattle.ls_words.specs.declared.command.Target.TheVariants.{Newest, At, Momen
 use Rattle.replica_store.specs.declared.dated_names.Dated.{Dated}
 use Rattle.replica_store.specs.declared.error.Damage.{Damage}
 use Rattle.replica_store.specs.declared.file_name.FileName.{FileName}
-use Rattle.replica_store.specs.Chain.{IsRetained}
+use Rattle.replica_store.specs.Chain.{IsRetained, IsChain}
 use Rattle.replica_store.specs.Dating.{AreDated, IsFirstBadHeader}
 use Rattle.replica_store.specs.Listing.{AreListed}
 use Rattle.restore_plan.specs.ChosenChain.{IsChosenChain}
@@ -64,6 +64,7 @@ pub record IsPlan (events : List Event) (r : Request) (t : ℕ) (plan : List Fil
   pub are : AreNames events names
   pub asked : IsAsked events names r.target t
   pub retained : IsRetained names t
+  pub chain : IsChain names t plan
   pub chosen : IsChosenChain names t plan
 
 -- no chain leads to the transaction that is asked for

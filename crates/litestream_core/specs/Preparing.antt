@@ -12,6 +12,8 @@ use Rattle.replica_store.specs.Dating.{IsFirstBadHeader}
 use Rattle.replica_store.specs.Listing.{AreListed}
 use Rattle.restore_apply.specs.declared.restored.RestoreFault.{RestoreFault}
 use Rattle.restore_apply.specs.declared.restored.RestoreFault.TheVariants as fault
+use Rattle.restore_plan.specs.declared.chain.PlanFault.{PlanFault}
+use Rattle.restore_plan.specs.declared.chain.PlanFault.TheVariants as plan
 use Rattle.litestream_core.specs.declared.outcome.Why.{Why}
 use Rattle.litestream_core.specs.declared.outcome.Why.TheVariants.{Done, SkippedOutput, SkippedReplica, NotBuilt, Usage, NoReplica, MissingRange, NoMoment, Damaged, PageMissing, OutputExists, StoreFault, TargetFault, SinkFault, Memory}
 use Rattle.litestream_core.specs.Asked.{IsMissing, IsBefore, IsBadHeader, IsTooEarly}
@@ -28,6 +30,11 @@ abbrev pub why_of_error : StoreError → Why
 why_of_error (error.Store fault) = StoreFault
 why_of_error (error.Damaged name damage) = Damaged name damage
 why_of_error error.Memory = Memory
+
+-- the answer that the lack of a plan becomes
+abbrev pub why_of_plan : PlanFault → Why
+why_of_plan (plan.MissingRange after) = MissingRange after
+why_of_plan plan.Memory = Memory
 
 -- the answer that a fault of a restore becomes
 abbrev pub why_of_fault : RestoreFault → Why

@@ -13,7 +13,7 @@ ghost use Rattle.litestream_core.specs.RequestView.{as_request};
 
 use crate::line::restored_line;
 use crate::outcome::{Outcome, Why};
-use crate::prepare::{Prepared, prepare};
+use crate::prepare::prepare;
 use crate::request::{Request, request_in};
 use crash_disk::{Disk, Out};
 use ls_words::{Words, WordsFault, read_words};
@@ -54,10 +54,14 @@ fn restore<S: Disk, T: Disk, O: Out>(
     }) (why_of result) }
     ensures store_unchanged { S.told store.new ≡ S.told store.old }
 {
-    let Prepared { plan, txid } = prepare(alloc, request, store, target)?;
-    let restored = restore_apply::restore(alloc, store, target, request.output, plan.as_slice())
-        .map_err(refusal)?;
-    let line = restored_line(txid, restored.pages);
+    let ready = prepare(alloc, request, store, target)?;
+    let plan = ready.plan.as_slice();
+    let applied = restore_apply::restore(alloc, store, target, request.output, plan);
+    let restored = match applied {
+        Ok(restored) => restored,
+        Err(fault) => return Err(refusal(fault)),
+    };
+    let line = restored_line(ready.txid, restored.pages);
     let Ok(()) = out.put(line.as_slice()) else {
         return Err(Why::SinkFault);
     };

@@ -6,7 +6,7 @@ ghost use Rattle.replica_store.specs.Chain.{IsListOrdered};
 ghost use Rattle.litestream_core.specs.declared.outcome.Why.TheVariants.{StoreFault, TargetFault};
 ghost use Rattle.litestream_core.specs.Asked.{AreNames, IsPlan};
 ghost use Rattle.litestream_core.specs.Command.{LacksOutput};
-ghost use Rattle.litestream_core.specs.Preparing.{IsRefusalOf, ExplainsOutput, ExplainsReading, ExplainsPrepare};
+ghost use Rattle.litestream_core.specs.Preparing.{IsRefusalOf, why_of_plan, ExplainsOutput, ExplainsReading, ExplainsPrepare};
 ghost use Rattle.litestream_core.specs.RequestView.{as_request};
 
 use crate::asked::{asked, refusal};
@@ -40,6 +40,15 @@ fn target_refusal(fault: NamesFault) -> Why
     match fault {
         NamesFault::Disk(_) => Why::TargetFault,
         NamesFault::Memory => Why::Memory,
+    }
+}
+
+fn plan_refusal(fault: PlanFault) -> Why
+    ensures { result ≡ why_of_plan fault }
+{
+    match fault {
+        PlanFault::MissingRange { after } => Why::MissingRange(after),
+        PlanFault::Memory => Why::Memory,
     }
 }
 
@@ -92,11 +101,11 @@ fn find_plan<S: Disk>(alloc: Global, request: &Request<'_>, store: &mut S) -> Re
 {
     let names = find_names(alloc, request, store)?;
     let txid = asked(alloc, request, store, names.as_slice())?;
-    match plan(alloc, names.as_slice(), txid) {
-        Ok(plan) => Ok(Prepared { plan, txid }),
-        Err(PlanFault::MissingRange { after }) => Err(Why::MissingRange(after)),
-        Err(PlanFault::Memory) => Err(Why::Memory),
-    }
+    let plan = match plan(alloc, names.as_slice(), txid) {
+        Ok(plan) => plan,
+        Err(fault) => return Err(plan_refusal(fault)),
+    };
+    Ok(Prepared { plan, txid })
 }
 
 /// Reads what a restore needs to know before it writes. Nothing is changed.

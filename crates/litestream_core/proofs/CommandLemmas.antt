@@ -1,0 +1,119 @@
+-- From the steps of a restore to what its answers mean.
+use Rattle.std.proofs.Common.{◌≡◌, ℕ, ◌≤◌, List, [], length, Option, Some, None, refl, sym, ap, subst, ◌∙◌, inl, inr, arith}
+use Rattle.crash_disk.specs.Fault.{Rose}
+use Rattle.crash_disk.specs.Told.{Told, IfTold}
+use Rattle.crash_disk.specs.Output.{gains_text, GainsFront}
+use Rattle.replica_store.specs.declared.file_name.FileName.{FileName}
+use Rattle.restore_apply.specs.declared.restored.Restored.{Restored}
+use Rattle.restore_apply.specs.declared.restored.RestoreFault.{RestoreFault}
+use Rattle.restore_apply.specs.declared.restored.RestoreFault.TheVariants as fault
+use Rattle.restore_apply.specs.Restoring.{Restores as Applies, ExplainsRestore}
+use Rattle.litestream_core.specs.declared.outcome.Why.{Why}
+use Rattle.litestream_core.specs.declared.outcome.Why.TheVariants.{Done, SkippedOutput, SkippedReplica, NotBuilt, Usage, NoReplica, MissingRange, NoMoment, Damaged, PageMissing, OutputExists, StoreFault, TargetFault, SinkFault, Memory}
+use Rattle.replica_store.specs.Chain.{IsRetained}
+use Rattle.restore_plan.specs.declared.chain.PlanFault.{PlanFault}
+use Rattle.restore_plan.specs.declared.chain.PlanFault.TheVariants as plan
+use Rattle.restore_plan.specs.Retained.{IsGreatestRetainedBelow}
+use Rattle.litestream_core.specs.Asked.{IsPlan, IsAsked, AreNames}
+use Rattle.litestream_core.specs.Command.{Scene, Explains, LacksOutput, Restores}
+use Rattle.litestream_core.specs.Line.{restored_text}
+use Rattle.litestream_core.specs.Preparing.{why_of_fault, why_of_plan, ExplainsReading}
+use Rattle.litestream_core.specs.Request.{Request}
+
+-- a count that rose from a later moment on rose from an earlier one on
+pub rose_sooner : (before mid now : ℕ) → before ≤ mid → Rose mid now → Rose before now
+rose_sooner before mid now later rose = record { least = omega (arith, rose.least) }
+
+module _ (r : Request) (scene : Scene) (t : ℕ) (plan : List FileName) (lacks : LacksOutput scene.target r) (is : IfTold scene.store (λ events. IsPlan events r t plan)) where
+  pub explains_fault : (store_mid target_mid : ℕ) → scene.store_faults ≤ store_mid → scene.target_faults ≤ target_mid → scene.text_after ≡ scene.text → (found : RestoreFault)
+      → ExplainsRestore scene.store plan r.output scene.target scene.target_after store_mid scene.store_faults_after target_mid scene.target_faults_after found → Explains r scene (why_of_fault found)
+  explains_fault store_mid target_mid store_later target_later text (fault.Damaged name damage) (same, first) = (
+    record { target = same; text = text },
+    lacks,
+    λ events told. inr (record { t = t; plan = plan; is = is events told; first = first events told }),
+  )
+  explains_fault store_mid target_mid store_later target_later text (fault.PageMissing name number) (same, first) = (
+    record { target = same; text = text },
+    lacks,
+    λ events told. record { t = t; plan = plan; is = is events told; first = first events told },
+  )
+  explains_fault store_mid target_mid store_later target_later text (fault.Store disk) (same, rose) = (
+    record { target = same; text = text },
+    lacks,
+    rose_sooner scene.store_faults store_mid scene.store_faults_after store_later rose,
+  )
+  explains_fault store_mid target_mid store_later target_later text (fault.Target disk) (rose, may) = (
+    text,
+    rose_sooner scene.target_faults target_mid scene.target_faults_after target_later rose,
+    inr (λ events told.
+      let made = may events told in
+      record {
+        absent = lacks;
+        t = t;
+        plan = plan;
+        is = is events told;
+        state = made.state;
+        makes = made.makes;
+        output = made.output;
+      }),
+  )
+  explains_fault store_mid target_mid store_later target_later text fault.Memory same = record { target = same; text = text }
+
+  module _ (restored : Restored) (ok : IfTold scene.store (λ events. Applies events plan r.output scene.target scene.target_after restored)) where
+    abbrev restores : IfTold scene.store (λ events. Restores events r scene)
+    restores = λ events told.
+        let made = ok events told in
+        record {
+          t = t;
+          plan = plan;
+          is = is events told;
+          state = made.state;
+          makes = made.makes;
+          output = made.output;
+        }
+
+    pub explains_done : scene.text_after ≡ gains_text scene.text (restored_text t restored.pages) → Explains r scene Done
+    explains_done line = (
+      lacks,
+      λ events told. record {
+        restored = restores events told;
+        line = line ∙ ap (λ n. gains_text scene.text (restored_text t n)) (ok events told).pages;
+      },
+    )
+
+    pub explains_sink_fault : Rose scene.sink_faults scene.sink_faults_after → GainsFront scene.text scene.text_after (restored_text t restored.pages) → Explains r scene SinkFault
+    explains_sink_fault rose front = (
+      rose,
+      lacks,
+      λ events told. record {
+        restored = restores events told;
+        line = subst (λ n. GainsFront scene.text scene.text_after (restored_text t n)) (ok events told).pages front;
+      },
+    )
+
+-- what was told after the reading, of what was told before it
+module _ (store store_mid target target_mid target_after : Told) (plan lent : List FileName) (output : List ℕ) where
+  pub explained_from : (a b c d : ℕ) (found : RestoreFault) → store_mid ≡ store → target_mid ≡ target → lent ≡ plan
+      → ExplainsRestore store_mid lent output target_mid target_after a b c d found → ExplainsRestore store plan output target target_after a b c d found
+  explained_from a b c d found same_store same_target same_plan explained =
+      subst (λ (p : List FileName). ExplainsRestore store p output target target_after a b c d found) same_plan
+      (subst (λ (u : Told). ExplainsRestore store lent output u target_after a b c d found) same_target (subst (λ (u : Told). ExplainsRestore u lent output target_mid target_after a b c d found) same_store explained))
+
+  pub applied_from : (restored : Restored) → store_mid ≡ store → target_mid ≡ target → lent ≡ plan
+      → IfTold store_mid (λ events. Applies events lent output target_mid target_after restored) → IfTold store (λ events. Applies events plan output target target_after restored)
+  applied_from restored same_store same_target same_plan applied = λ events told.
+      subst (λ (p : List FileName). Applies events p output target target_after restored) same_plan
+      (subst (λ (u : Told). Applies events lent output u target_after restored) same_target (applied events (same_store ∙ told)))
+
+-- why there is no plan to the transaction that is asked for
+pub explains_plan : (r : Request) (store : Told) (before now : ℕ) (names : List FileName) (t : ℕ) (found : PlanFault) → IfTold store (λ events. AreNames events names) → IfTold store (λ events. IsAsked events names r.target t)
+    → ((after : ℕ) → found ≡ plan.MissingRange after → IsRetained names t → ⊥) → ((after : ℕ) → found ≡ plan.MissingRange after → IsGreatestRetainedBelow names t after) → ExplainsReading r store before now (why_of_plan found)
+explains_plan r store before now names t (plan.MissingRange after) are asked missing greatest = λ events told. record {
+  names = names;
+  are = are events told;
+  t = t;
+  asked = asked events told;
+  missing = missing after refl;
+  greatest = greatest after refl;
+}
+explains_plan r store before now names t plan.Memory are asked missing greatest = tt

@@ -1,0 +1,104 @@
+-- The promise of a restore.
+use Rattle.std.proofs.Common.{◌≡◌, ℕ, List, length, Option, Some, None, refl, sym, ap, subst, ◌∙◌, inl, inr}
+use Rattle.std.specs.FinMap.{get}
+use Rattle.crash_disk.specs.declared.event.Event.{Event}
+use Rattle.crash_disk.specs.Files.{files_after}
+use Rattle.crash_disk.specs.GoesOn.{GoesOn}
+use Rattle.crash_disk.specs.Images.{WasCrashImageSince}
+use Rattle.ls_base.specs.History.{History}
+use Rattle.ls_base.specs.State.{State, state_bytes}
+use Rattle.ls_base.specs.SyncLog.{SyncLog}
+use Rattle.replica_store.specs.declared.file_name.FileName.{FileName}
+use Rattle.replica_store.specs.Faithful.{IsFaithful}
+use Rattle.restore_apply.specs.Restoring.{Makes}
+use Rattle.restore_apply.specs.Staging.{WritesFile, MayWriteFile}
+use Rattle.restore_apply.specs.Stop.{LeavesNothing, LeavesAtMost}
+use Rattle.restore_apply.proofs.StopLemmas.{stop_same, some_weaker}
+use Rattle.litestream_core.specs.declared.outcome.Why.{Why}
+use Rattle.litestream_core.specs.declared.outcome.Why.TheVariants.{Done, SkippedOutput, SkippedReplica, NotBuilt, Usage, NoReplica, MissingRange, NoMoment, Damaged, PageMissing, OutputExists, StoreFault, TargetFault, SinkFault, Memory}
+use Rattle.litestream_core.specs.Asked.{IsPlan}
+use Rattle.litestream_core.specs.Command.{ForRequest, Scene, Explains, Restored, KeepsPromise, IsRecorded, SurvivesAnyStop}
+use Rattle.litestream_core.specs.Request.{Request, request_of}
+use Rattle.litestream_core.proofs.PlanLemmas.{plan_recorded}
+
+pub keeps_promise : (r : Request) (scene : Scene) (why : Why) → Explains r scene why → KeepsPromise r scene why
+keeps_promise r scene why explains history log events told faithful is_done =
+    let done : Explains r scene Done = subst (λ (answer : Why). Explains r scene answer) is_done explains in
+    let tells = done.1 events told in
+    let restored = tells.restored in
+    record {
+      names = restored.is.names;
+      are = restored.is.are;
+      t = restored.t;
+      asked = restored.is.asked;
+      state = restored.state;
+      recorded = plan_recorded events r restored.t restored.plan restored.state history log faithful restored.is restored.makes;
+      output = restored.output;
+      line = tells.line;
+    }
+
+same_events : (a b : List Event) (o : Option (List Event)) → o ≡ Some a → o ≡ Some b → a ≡ b
+same_events a b o is_a is_b = let e : Some a ≡ Some b = sym is_a ∙ is_b in cc
+
+module _ (r : Request) (scene : Scene) (history : History) (log : SyncLog) (store before after : List Event) (told : scene.store ≡ Some store) (faithful : IsFaithful (files_after store) history log)
+    (told_before : scene.target ≡ Some before) (told_after : scene.target_after ≡ Some after) (nothing : LeavesNothing r.output before) where
+  abbrev Recorded : List ℕ → Type 0
+  Recorded bytes = IsRecorded store r history log bytes
+
+  -- the target wasn't changed
+  stop_unchanged : scene.target_after ≡ scene.target → LeavesAtMost r.output Recorded before after
+  stop_unchanged same = stop_same r.output Recorded before after (same_events after before scene.target_after told_after (same ∙ told_before)) nothing
+
+  -- what the plan makes was written, or may have been
+  stop_written : (t : ℕ) (plan : List FileName) (state : State) (P : List Event → List Event → Type 0) → IsPlan store r t plan → Makes store plan state → GoesOn scene.target scene.target_after P
+      → ((x y : List Event) → P x y → LeavesNothing r.output x → LeavesAtMost r.output (λ found. found ≡ state_bytes state) x y) → LeavesAtMost r.output Recorded before after
+  stop_written t plan state P is makes goes holds image was =
+      let went = goes.told before told_before in
+      let same = same_events went.0 after scene.target_after went.1 told_after in
+      some_weaker (get image r.output) (λ found. found ≡ state_bytes state) Recorded
+      (λ bytes whole. record {
+        names = is.names;
+        are = is.are;
+        t = t;
+        asked = is.asked;
+        state = state;
+        recorded = plan_recorded store r t plan state history log faithful is makes;
+        same = whole;
+      })
+      (holds before went.0 went.2 nothing image (subst (λ (es : List Event). WasCrashImageSince es (length before) image) (sym same) was))
+
+  stop_of : (why : Why) → Explains r scene why → LeavesAtMost r.output Recorded before after
+  stop_of Done (_, tells) =
+      let it = (tells store told).restored in
+      stop_written it.t it.plan it.state (WritesFile r.output (state_bytes it.state)) it.is it.makes it.output (λ x y is. is.at_a_stop)
+  stop_of SkippedOutput (writes, _, _) = stop_unchanged writes.target
+  stop_of (OutputExists size) (writes, _, _) = stop_unchanged writes.target
+  stop_of SkippedReplica (writes, _, _, _) = stop_unchanged writes.target
+  stop_of NoReplica (writes, _, _, _) = stop_unchanged writes.target
+  stop_of NoMoment (writes, _, _) = stop_unchanged writes.target
+  stop_of (MissingRange past) (writes, _, _) = stop_unchanged writes.target
+  stop_of (Damaged name damage) (writes, _, _) = stop_unchanged writes.target
+  stop_of (PageMissing name number) (writes, _, _) = stop_unchanged writes.target
+  stop_of StoreFault (writes, _, _) = stop_unchanged writes.target
+  stop_of TargetFault (_, _, may) = elim may [
+    | inl same ↦ stop_unchanged same
+    | inr maybe ↦
+        let it = maybe store told in
+        stop_written it.t it.plan it.state (MayWriteFile r.output (state_bytes it.state)) it.is it.makes it.output (λ x y is. is.at_a_stop)
+  ]
+  stop_of SinkFault (_, _, untold) =
+      let it = (untold store told).restored in
+      stop_written it.t it.plan it.state (WritesFile r.output (state_bytes it.state)) it.is it.makes it.output (λ x y is. is.at_a_stop)
+  stop_of Memory writes = stop_unchanged writes.target
+  stop_of NotBuilt explains = absurd explains
+  stop_of (Usage usage) explains = absurd explains
+
+pub survives_any_stop : (r : Request) (scene : Scene) (why : Why) → Explains r scene why → SurvivesAnyStop r scene.store scene.target scene.target_after
+survives_any_stop r scene why explains history log store before after told faithful told_before told_after nothing = stop_of r scene history log store before after told faithful told_before told_after nothing why explains
+
+same_request : (a b : Request) → ◌≡◌ {A = Option Request} (Some a) (Some b) → a ≡ b
+same_request a b e = cc
+
+-- what holds of the request that was read holds of the request that the words make
+pub for_request : (words : List (List ℕ)) (read : Request) (P : Request → Type 0) → request_of words ≡ Some read → P read → ForRequest words P
+for_request words read P is holds r e = subst P (same_request read r (sym is ∙ e)) holds

@@ -1,0 +1,35 @@
+use Rattle.std.proofs.Common.{◌≡◌, List, ℕ, refl, sym, ap, subst, ◌∙◌}
+use Rattle.crash_disk.specs.Output.{gains_text, GainsFront}
+use Rattle.crash_disk.specs.Told.{Told, IfTold}
+use Rattle.replica_store.specs.declared.file_name.FileName.{FileName}
+use Rattle.restore_apply.specs.Restoring.{Restores, ExplainsRestore}
+use Rattle.litestream_core.specs.Command.{Explains}
+use Rattle.litestream_core.specs.RequestView.{as_request}
+use Rattle.litestream_core.proofs.CommandLemmas.{explains_fault, explains_done, explains_sink_fault, explained_from, applied_from}
+use Rattle.litestream_core.proofs.command.restore.Goals as goal
+
+pub returns-in-Err-clause-explained : goal.returns-in-Err-clause-explained
+returns-in-Err-clause-explained g c =
+    let r = as_request c.args.request.now in
+    subst (Explains r _) (sym c.refusal.ensures)
+    (explains_fault r _ c.in_ok-ready.ready.txid c.in_ok-ready.ready.plan c.in_ok-ready.ensures.absent c.in_ok-ready.ensures.plan
+    (g.S.Disk.fault_count c.prepare.new.store) (g.T.Disk.fault_count c.prepare.new.target) c.in_ok-ready.ensures.store_later c.in_ok-ready.ensures.target_later refl c.in-Err.fault
+    (explained_from (g.S.Disk.told c.args.store.now) (g.S.Disk.told c.prepare.new.store) (g.T.Disk.told c.args.target.now) (g.T.Disk.told c.prepare.new.target) (g.T.Disk.told c.restore-applied.new.target) c.in_ok-ready.ready.plan c.as_slice-plan.result.now r.output _ _ _ _ c.in-Err.fault
+    c.in_ok-ready.ensures.store_unchanged c.in_ok-ready.ensures.target_unchanged c.as_slice-plan.ensures c.in-Err.ensures.explained))
+
+pub returns-in_default-clause-explained : goal.returns-in_default-clause-explained
+returns-in_default-clause-explained g c =
+    let r = as_request c.args.request.now in
+    explains_sink_fault r _ c.in_ok-ready.ready.txid c.in_ok-ready.ready.plan c.in_ok-ready.ensures.absent c.in_ok-ready.ensures.plan c.in-Ok.restored
+    (applied_from (g.S.Disk.told c.args.store.now) (g.S.Disk.told c.prepare.new.store) (g.T.Disk.told c.args.target.now) (g.T.Disk.told c.prepare.new.target) (g.T.Disk.told c.restore-applied.new.target) c.in_ok-ready.ready.plan c.as_slice-plan.result.now r.output c.in-Ok.restored
+    c.in_ok-ready.ensures.store_unchanged c.in_ok-ready.ensures.target_unchanged c.as_slice-plan.ensures c.in-Ok.ensures.ok)
+    (c.in_default.ensures.cause.rose refl)
+    (subst (λ (line : List ℕ). GainsFront (g.O.Out.text c.args.out.now) (g.O.Out.text c.put.new.self) line) (c.as_slice.ensures.value ∙ c.restored_line-line.ensures) c.in_default.ensures.err)
+
+pub returns-clause-explained : goal.returns-clause-explained
+returns-clause-explained g c =
+    let r = as_request c.args.request.now in
+    explains_done r _ c.in_ok-ready.ready.txid c.in_ok-ready.ready.plan c.in_ok-ready.ensures.absent c.in_ok-ready.ensures.plan c.in-Ok.restored
+    (applied_from (g.S.Disk.told c.args.store.now) (g.S.Disk.told c.prepare.new.store) (g.T.Disk.told c.args.target.now) (g.T.Disk.told c.prepare.new.target) (g.T.Disk.told c.restore-applied.new.target) c.in_ok-ready.ready.plan c.as_slice-plan.result.now r.output c.in-Ok.restored
+    c.in_ok-ready.ensures.store_unchanged c.in_ok-ready.ensures.target_unchanged c.as_slice-plan.ensures c.in-Ok.ensures.ok)
+    (c.in-Ok-put.ensures.ok ∙ ap (λ line. gains_text (g.O.Out.text c.args.out.now) line) (c.as_slice.ensures.value ∙ c.restored_line-line.ensures))
