@@ -1,18 +1,16 @@
 -- The first fault of a header is that of its reader.
-use Rattle.std.proofs.Common.{◌≡◌, ℕ, ◌+◌, ◌*◌, ◌^◌, ◌<◌, ◌≤◌, Bool, true, false, cond, eqb, ltb, leb, not, ◌&&◌, ◌||◌, List, [], ◌∷◌, ◌++◌, length, drop, Option, Some, None, Result, Ok, Err, refl, sym, ap, subst, ◌∙◌, arith, inl, inr}
-use Rattle.std.specs.Option.{option_or}
+use Rattle.std.proofs.Common.{◌≡◌, ℕ, ◌*◌, ◌^◌, ◌≤◌, Bool, true, false, eqb, leb, not, ◌&&◌, ◌||◌, List, [], ◌∷◌, length, drop, Result, refl, arith, inl, inr}
 use Rattle.std.specs.Int.{w32, w64}
-use Rattle.std.proofs.lemmas.Bool.{cases_Bool, cases_lt, eqb-true, eq-eqb, ne_eqb, le-ltb, lt-ltb, le-leb, lt-leb, eqb-false}
+use Rattle.std.proofs.lemmas.Bool.{cases_Bool, cases_lt, eqb-true, ne_eqb, le-ltb, lt-ltb, le-leb, lt-leb}
 use Rattle.std.proofs.Math.Bool.{or-false}
 use Rattle.ls_base.specs.PageSize.{is_page_size}
 use Rattle.ls_base.specs.declared.place.Place.{Place}
-use Rattle.ls_base.specs.declared.place.Place.TheVariants.{Wal, Rest}
+use Rattle.ls_base.specs.declared.place.Place.TheVariants.{Rest}
 use Rattle.ltx_format.specs.declared.fault.LtxFault.{LtxFault}
-use Rattle.ltx_format.specs.declared.fault.LtxFault.TheVariants.{Short, BadMagic, BadPageSize, BadCommit, BadRange, BadReserved}
-use Rattle.ltx_format.specs.declared.header.LtxHeader.{LtxHeader}
+use Rattle.ltx_format.specs.declared.fault.LtxFault.TheVariants.{BadMagic, BadPageSize, BadCommit, BadRange, BadReserved}
 use Rattle.ltx_format.specs.FirstFault.{Tests, first_failed, number, page_size, commit, min_txid, are_frames, is_in_log, is_at_rest, header_tests, header_fault}
-use Rattle.ltx_format.specs.Reading.{◌>>=◌, where_true, number_at, behind, flags_from, size_from, commit_at, range_from, wal_at, rest_at, place_at, fields_at, header_at}
-use Rattle.ltx_format.proofs.TestSteps.{fault_of, bind_assoc, step_then, last_step, number_here, behind_here, flags_steps}
+use Rattle.ltx_format.specs.Reading.{◌>>=◌, where_true, number_at, behind, size_from, commit_at, range_from, wal_at, rest_at, place_at, fields_at, header_at}
+use Rattle.ltx_format.proofs.TestSteps.{fault_of, step_then, number_here, behind_here, flags_steps}
 
 -- ---- the place
 
