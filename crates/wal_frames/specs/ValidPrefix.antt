@@ -48,17 +48,19 @@ stop_behind front h before (frame ∷ frames) =
 unfoldable pub whole_frames : WalHeader → List ℕ → List (List ℕ)
 whole_frames h log = first_chunks (frame_length h) ((length log - 32) / frame_length h) (drop 32 log)
 
+-- its valid prefix under this header, and the fault of the first frame behind that
 abbrev pub frames_under : WalHeader → List ℕ → List (List ℕ)
 frames_under h log = valid_behind (take 24 log) h [] (whole_frames h log)
 
 abbrev pub stop_under : WalHeader → List ℕ → Option NotValid
 stop_under h log = stop_behind (take 24 log) h [] (whole_frames h log)
 
--- the valid prefix of the log: none where its header is refused
+-- a value under the header that a log begins with, or another where it is refused
 abbrev pub if_accepted : {A : Type 0} → Result WalHeader WalHeaderFault → (WalHeader → A) → A → A
 if_accepted (Ok h) value otherwise = value h
 if_accepted (Err fault) value otherwise = otherwise
 
+-- the valid prefix of the log: no frame where its header is refused
 abbrev pub valid_frames : List ℕ → List (List ℕ)
 valid_frames log = if_accepted (read_header log) (λ h. frames_under h log) []
 
