@@ -41,12 +41,17 @@ fn check(rt: &impl Abort, alloc: Global, calls: u64, choice: u64) -> Result<(), 
     Ok(())
 }
 
+fn check_choices(rt: &impl Abort, alloc: Global, calls: u64) -> Result<(), Fail> {
+    for choice in 0..8 {
+        check(rt, alloc, calls, choice)?;
+    }
+    Ok(())
+}
+
 #[test]
 fn a_stopped_put_leaves_the_whole_file_or_none(rt: HostRuntime) -> Result<(), Fail> {
     for calls in 0..8 {
-        for choice in 0..8 {
-            check(&rt, rt.alloc(), calls, choice)?;
-        }
+        check_choices(&rt, rt.alloc(), calls)?;
     }
     Ok(())
 }
