@@ -14,8 +14,6 @@ mod content;
 #[cfg(test)]
 mod faults;
 #[cfg(test)]
-mod growth;
-#[cfg(test)]
 mod lists;
 #[cfg(test)]
 mod putting;
