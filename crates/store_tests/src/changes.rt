@@ -12,9 +12,15 @@ use std::test::Fail;
 fn a_file_is_read_whole_and_an_absent_one_is_empty(rt: HostRuntime) -> Result<(), Fail> {
     let mut store = MemDisk::new(rt.alloc());
     let name = name_of(PATH)?;
-    assert_eq!(rt; get(rt.alloc(), &mut store, &name)?.as_slice(), b"".as_slice());
+    assert_eq!(rt;
+        get(rt.alloc(), &mut store, &name)?.as_slice(),
+        b"".as_slice()
+    );
     store.put_file(PATH, b"older")?;
-    assert_eq!(rt; get(rt.alloc(), &mut store, &name)?.as_slice(), b"older".as_slice());
+    assert_eq!(rt;
+        get(rt.alloc(), &mut store, &name)?.as_slice(),
+        b"older".as_slice()
+    );
     Ok(())
 }
 

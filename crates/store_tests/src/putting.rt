@@ -8,7 +8,9 @@ use replica_store::{FileName, Put};
 
 /// The pieces of the file, and the whole of it.
 const FIRST: &str = "first ";
+
 const SECOND: &str = "second";
+
 pub const WHOLE: &str = "first second";
 
 /// How many calls on the disk a put in two pieces makes.

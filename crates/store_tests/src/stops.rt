@@ -7,16 +7,18 @@ use std::alloc::Global;
 use std::process::Abort;
 use std::test::Fail;
 
-/// Whether the file is there after a put that was stopped behind so many calls, and a crash by a choice.
+/// How many calls a put has made once it has renamed the file. The sync of the names comes behind it.
+const RENAMED: u64 = 6;
+
+/// Whether the file is there after a put that was stopped behind so many calls, and a crash by a choice; none
+/// where the choice may leave it or not.
 ///
-/// The last two calls are the rename and the sync of the names. Choice 0 takes no change of a name that wasn't
-/// synced, choices 1 and 2 take all of them; each other may take the rename or not.
+/// Choice 0 takes no change of a name that wasn't synced, and choices 1 and 2 take all of them.
 fn stands(calls: u64, choice: u64) -> Option<bool> {
-    match (choice, CALLS - calls) {
-        (_, 0) => Some(true),
-        (1 | 2, 1) => Some(true),
-        (0, _) => Some(false),
-        (_, 1) => None,
+    match (calls, choice) {
+        (CALLS, _) | (RENAMED, 1 | 2) => Some(true),
+        (RENAMED, 0) => Some(false),
+        (RENAMED, _) => None,
         _ => Some(false),
     }
 }
@@ -31,19 +33,25 @@ fn check(rt: &impl Abort, alloc: Global, calls: u64, choice: u64) -> Result<(), 
     let whole = reads(alloc, &mut store, &name, Some(WHOLE))?;
     let absent = reads(alloc, &mut store, &name, None)?;
     assert!(rt; whole || absent, "stop after {calls}, choice {choice}");
-    assert!(rt;
-        stands(calls, choice).is_none_or(|stands| stands == whole),
+    assert_eq!(rt;
+        stands(calls, choice).unwrap_or(whole),
+        whole,
         "stop after {calls}, choice {choice}"
     );
+    Ok(())
+}
+
+fn check_choices(rt: &impl Abort, alloc: Global, calls: u64) -> Result<(), Fail> {
+    for choice in 0..8 {
+        check(rt, alloc, calls, choice)?;
+    }
     Ok(())
 }
 
 #[test]
 fn a_stopped_put_leaves_the_whole_file_or_none(rt: HostRuntime) -> Result<(), Fail> {
     for calls in 0..8 {
-        for choice in 0..8 {
-            check(&rt, rt.alloc(), calls, choice)?;
-        }
+        check_choices(&rt, rt.alloc(), calls)?;
     }
     Ok(())
 }
