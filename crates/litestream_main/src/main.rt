@@ -14,7 +14,8 @@ mod tests;
 
 use crash_disk::Out;
 use file_disk::FileDisk;
-use litestream_core::{Words, litestream};
+use litestream_core::litestream;
+use ls_words::Words;
 use std::env;
 use std::io::{self, ErrorKind};
 use std::process::ExitCode;
