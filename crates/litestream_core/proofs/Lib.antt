@@ -2,4 +2,5 @@ pub mod RequestLemmas
 pub mod NewestLemmas
 pub mod PlanLemmas
 pub mod CommandLemmas
+pub mod ExactLemmas
 pub mod Theorems

@@ -4,4 +4,5 @@ pub mod RequestView
 pub mod Line
 pub mod Asked
 pub mod Command
+pub mod Exact
 pub mod Preparing

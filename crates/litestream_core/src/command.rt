@@ -6,6 +6,7 @@ ghost use Rattle.ls_words.specs.declared.usage.Usage.{Usage};
 ghost use Rattle.ls_words.specs.Command.{command_of};
 ghost use Rattle.litestream_core.specs.declared.outcome.Why.TheVariants.{NotBuilt, Memory, Usage as of_usage};
 ghost use Rattle.litestream_core.specs.Command.{Explains, ForRequest, KeepsPromise, SurvivesAnyStop, why_of};
+ghost use Rattle.litestream_core.specs.Exact.{ComesExactly};
 ghost use Rattle.litestream_core.specs.Preparing.{why_of_fault};
 ghost use Rattle.litestream_core.specs.Outcome.{status_of};
 ghost use Rattle.litestream_core.specs.Request.{request_in, request_of};
@@ -102,6 +103,19 @@ pub fn litestream<S: Disk, T: Disk, O: Out>(
 
     // What each answer means, when it comes, and what is promised of it.
     ensures explained { ForRequest words.now (λ r. Explains r (record {
+      store = S.told store.old;
+      target = T.told target.old;
+      target_after = T.told target.new;
+      text = O.text out.old;
+      text_after = O.text out.new;
+      store_faults = S.fault_count store.old;
+      store_faults_after = S.fault_count store.new;
+      target_faults = T.fault_count target.old;
+      target_faults_after = T.fault_count target.new;
+      sink_faults = O.fault_count out.old;
+      sink_faults_after = O.fault_count out.new;
+    }) result.why) }
+    ensures exact { ForRequest words.now (λ r. ComesExactly r (record {
       store = S.told store.old;
       target = T.told target.old;
       target_after = T.told target.new;

@@ -1,12 +1,18 @@
 use Rattle.std.proofs.Common.{sym, ap, ◌∙◌}
 use Rattle.litestream_core.specs.Request.{asked_in}
 use Rattle.litestream_core.specs.RequestView.{as_request}
+use Rattle.litestream_core.proofs.ExactLemmas.{comes_exactly}
 use Rattle.litestream_core.proofs.Theorems.{keeps_promise, survives_any_stop, for_request}
 use Rattle.litestream_core.proofs.command.litestream.Goals as goal
 
 pub returns-clause-explained : goal.returns-clause-explained
 returns-clause-explained g c =
     for_request c.args.words.now (as_request c.in-Some.request) _ (ap asked_in c.in-Ok.ensures.ok ∙ sym c.in-Some.ensures) (rw (c.of-2.ensures.cause, c.cause_of.ensures) c.restore-ended.ensures.explained)
+
+pub returns-clause-exact : goal.returns-clause-exact
+returns-clause-exact g c =
+    for_request c.args.words.now (as_request c.in-Some.request) _ (ap asked_in c.in-Ok.ensures.ok ∙ sym c.in-Some.ensures)
+    (rw (c.of-2.ensures.cause, c.cause_of.ensures) (comes_exactly (as_request c.in-Some.request) _ _ c.restore-ended.ensures.explained))
 
 pub returns-clause-promise : goal.returns-clause-promise
 returns-clause-promise g c =

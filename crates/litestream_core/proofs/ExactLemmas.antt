@@ -1,0 +1,153 @@
+-- Where the condition of an answer holds and no count rose, no other answer is left but want of memory.
+use Rattle.std.proofs.Common.{◌≡◌, ℕ, List, [], ◌∷◌, length, Bool, true, false, Option, Some, None, refl, sym, ap, subst, ◌∙◌, inl, inr, arith}
+use Rattle.std.specs.Prelude.{◌⊎◌, option_map, IsSome, is_some, ℤ}
+use Rattle.std.specs.List.{Contains}
+use Rattle.crash_disk.specs.declared.event.Event.{Event}
+use Rattle.crash_disk.specs.Files.{file_at, size_of}
+use Rattle.ls_words.specs.declared.command.Target.{Target}
+use Rattle.ls_words.specs.declared.command.Target.TheVariants.{Newest, At, Moment}
+use Rattle.replica_store.specs.declared.error.Damage.{Damage}
+use Rattle.replica_store.specs.declared.file_name.FileName.{FileName}
+use Rattle.replica_store.specs.Listing.{AreListed, path_of, paths_of}
+use Rattle.litestream_core.specs.declared.outcome.Why.{Why}
+use Rattle.litestream_core.specs.declared.outcome.Why.TheVariants.{Done, SkippedOutput, SkippedReplica, NotBuilt, Usage, NoReplica, MissingRange, NoMoment, Damaged, PageMissing, OutputExists, StoreFault, TargetFault, SinkFault, Memory}
+use Rattle.litestream_core.specs.Asked.{AreNames, IsAsked, IsOfMoment, IsPlan, IsMissing, IsBefore, IsBadHeader}
+use Rattle.litestream_core.specs.Command.{Scene, Explains}
+use Rattle.litestream_core.specs.Exact.{IsFree, IsTaken, HeadersAreGood, IsInTime, HasNoneOf, HasNoChain, ComesExactly}
+use Rattle.litestream_core.specs.Request.{Request}
+
+absent_size : (o : Option (List ℕ)) (n : ℕ) → o ≡ None → option_map length o ≡ Some n → ⊥
+absent_size None n none some = absurd cc
+absent_size (Some x) n none some = absurd cc
+
+absent_there : (o : Option (List ℕ)) → o ≡ None → IsSome o → ⊥
+absent_there None none some = absurd cc
+absent_there (Some x) none some = absurd cc
+
+same_size : (o : Option ℕ) (m n : ℕ) → o ≡ Some m → o ≡ Some n → n ≡ m
+same_size o m n e f = cc
+
+both_ways : (b : Bool) → b ≡ true → b ≡ false → ⊥
+both_ways b set unset = cc
+
+-- a replica without names has none
+none_listed : (store : List Event) (names : List FileName) → AreListed store [] → AreNames store names → ⊥
+none_listed store [] none are = are.some refl
+none_listed store (name ∷ names) none are =
+    let has : Contains (paths_of (name ∷ names)) (path_of name) = (0, omega arith, refl) in
+    let there = (are.listed.each (path_of name)).0 has in
+    let never = (none.each (path_of name)).1 there in
+    absurd (omega (arith, never.1))
+
+-- how far a restore came, where its output's name was free and no disk failed
+data Reached (r : Request) (scene : Scene) (store : List Event) (why : Why) : Type 0 where
+  OutOfMemory : why ≡ Memory → Reached r scene store why
+  NamesNone : AreListed store [] → ((why ≡ SkippedReplica) × (r.if_replica_exists ≡ true)) ⊎ ((why ≡ NoReplica) × (r.if_replica_exists ≡ false)) → Reached r scene store why
+  TooEarly : why ≡ NoMoment → IsBefore store r → Reached r scene store why
+  LacksChain : (after : ℕ) → why ≡ MissingRange after → IsMissing store r after → Reached r scene store why
+  ReadsBadHeader : (name : FileName) (damage : Damage) → IsBadHeader store r name damage → Reached r scene store why
+  HasPlan : (t : ℕ) (plan : List FileName) → IsPlan store r t plan → Reached r scene store why
+
+module _ (r : Request) (scene : Scene) (store : List Event) (told : scene.store ≡ Some store) (is : IsFree r scene) where
+  reached : (why : Why) → Explains r scene why → Reached r scene store why
+  reached Done (_, tells) = let it = (tells store told).restored in HasPlan it.t it.plan it.is
+  reached SkippedOutput (_, _, there) = absurd (absent_there _ is.free (there is.target is.told))
+  reached (OutputExists n) (_, _, there) = absurd (absent_size _ n is.free (there is.target is.told))
+  reached SkippedReplica (_, _, flag, none) = NamesNone (none store told) (inl (refl, flag))
+  reached NoReplica (_, _, flag, none) = NamesNone (none store told) (inr (refl, flag))
+  reached NoMoment (_, _, before) = TooEarly refl (before store told)
+  reached (MissingRange after) (_, _, missing) = LacksChain after refl (missing store told)
+  reached (Damaged name damage) (_, _, bad) = elim (bad store told) [
+    | inl header ↦ ReadsBadHeader name damage header
+    | inr plan ↦ HasPlan plan.t plan.plan plan.is
+  ]
+  reached (PageMissing name number) (_, _, missing) = let it = missing store told in HasPlan it.t it.plan it.is
+  reached StoreFault (_, _, rose) = absurd (is.store_calm rose)
+  reached TargetFault (_, rose, _) = absurd (is.calm rose)
+  reached SinkFault (_, _, untold) = let it = (untold store told).restored in HasPlan it.t it.plan it.is
+  reached Memory _ = OutOfMemory refl
+  reached NotBuilt never = absurd never
+  reached (Usage usage) never = absurd never
+
+module _ (r : Request) (scene : Scene) (store : List Event) where
+  no_replica : (why : Why) → AreListed store [] → r.if_replica_exists ≡ false → Reached r scene store why → (why ≡ NoReplica) ⊎ (why ≡ Memory)
+  no_replica why none flag (OutOfMemory e) = inr e
+  no_replica why none flag (NamesNone _ (inl (e, set))) = absurd (both_ways r.if_replica_exists set flag)
+  no_replica why none flag (NamesNone _ (inr (e, unset))) = inl e
+  no_replica why none flag (TooEarly _ before) = absurd (none_listed store before.names none before.are)
+  no_replica why none flag (LacksChain after _ missing) = absurd (none_listed store missing.names none missing.are)
+  no_replica why none flag (ReadsBadHeader name damage bad) = absurd (none_listed store bad.names none bad.are)
+  no_replica why none flag (HasPlan t plan planned) = absurd (none_listed store planned.names none planned.are)
+
+  skipped_replica : (why : Why) → AreListed store [] → r.if_replica_exists ≡ true → Reached r scene store why → (why ≡ SkippedReplica) ⊎ (why ≡ Memory)
+  skipped_replica why none flag (OutOfMemory e) = inr e
+  skipped_replica why none flag (NamesNone _ (inl (e, set))) = inl e
+  skipped_replica why none flag (NamesNone _ (inr (e, unset))) = absurd (both_ways r.if_replica_exists flag unset)
+  skipped_replica why none flag (TooEarly _ before) = absurd (none_listed store before.names none before.are)
+  skipped_replica why none flag (LacksChain after _ missing) = absurd (none_listed store missing.names none missing.are)
+  skipped_replica why none flag (ReadsBadHeader name damage bad) = absurd (none_listed store bad.names none bad.are)
+  skipped_replica why none flag (HasPlan t plan planned) = absurd (none_listed store planned.names none planned.are)
+
+  of_moment : (moment : ℤ) (names : List FileName) (t : ℕ) → r.target ≡ Moment moment → IsAsked store names r.target t → IsOfMoment store names moment t
+  of_moment moment names t is asked = subst (λ (target : Target). IsAsked store names target t) is asked
+
+  no_moment : (why : Why) (moment : ℤ) → (AreListed store [] → ⊥) → r.target ≡ Moment moment → HeadersAreGood store r → HasNoneOf store moment → Reached r scene store why → (why ≡ NoMoment) ⊎ (why ≡ Memory)
+  no_moment why moment some is good none (OutOfMemory e) = inr e
+  no_moment why moment some is good none (NamesNone listed _) = absurd (some listed)
+  no_moment why moment some is good none (TooEarly e _) = inl e
+  no_moment why moment some is good none (LacksChain after _ missing) = absurd (none missing.names missing.are missing.t (of_moment moment missing.names missing.t is missing.asked))
+  no_moment why moment some is good none (ReadsBadHeader name damage bad) = absurd (good bad.names bad.are name damage bad.bad)
+  no_moment why moment some is good none (HasPlan t plan planned) = absurd (none planned.names planned.are t (of_moment moment planned.names t is planned.asked))
+
+  missing_range : (why : Why) → (AreListed store [] → ⊥) → HeadersAreGood store r → IsInTime store r → HasNoChain store r → Reached r scene store why → ((after : ℕ) × (why ≡ MissingRange after)) ⊎ (why ≡ Memory)
+  missing_range why some good timely none (OutOfMemory e) = inr e
+  missing_range why some good timely none (NamesNone listed _) = absurd (some listed)
+  missing_range why some good timely none (TooEarly _ before) = absurd (timely before.names before.are before.lacks)
+  missing_range why some good timely none (LacksChain after e _) = inl (after, e)
+  missing_range why some good timely none (ReadsBadHeader name damage bad) = absurd (good bad.names bad.are name damage bad.bad)
+  missing_range why some good timely none (HasPlan t plan planned) = absurd (none planned.names planned.are t planned.asked planned.retained)
+
+module _ (r : Request) (scene : Scene) (size : ℕ) (is : IsTaken r scene size) where
+  exists : r.if_db_not_exists ≡ false → (why : Why) → Explains r scene why → (why ≡ OutputExists size) ⊎ (why ≡ Memory)
+  exists flag Done (lacks, _) = absurd (absent_size _ size (lacks is.target is.told) is.there)
+  exists flag SkippedOutput (_, set, _) = absurd (both_ways r.if_db_not_exists set flag)
+  exists flag (OutputExists n) (_, _, there) = inl (ap (λ m. OutputExists m) (same_size _ size n is.there (there is.target is.told)))
+  exists flag SkippedReplica (_, lacks, _, _) = absurd (absent_size _ size (lacks is.target is.told) is.there)
+  exists flag NoReplica (_, lacks, _, _) = absurd (absent_size _ size (lacks is.target is.told) is.there)
+  exists flag NoMoment (_, lacks, _) = absurd (absent_size _ size (lacks is.target is.told) is.there)
+  exists flag (MissingRange after) (_, lacks, _) = absurd (absent_size _ size (lacks is.target is.told) is.there)
+  exists flag (Damaged name damage) (_, lacks, _) = absurd (absent_size _ size (lacks is.target is.told) is.there)
+  exists flag (PageMissing name number) (_, lacks, _) = absurd (absent_size _ size (lacks is.target is.told) is.there)
+  exists flag StoreFault (_, lacks, _) = absurd (absent_size _ size (lacks is.target is.told) is.there)
+  exists flag TargetFault (_, rose, _) = absurd (is.calm rose)
+  exists flag SinkFault (_, lacks, _) = absurd (absent_size _ size (lacks is.target is.told) is.there)
+  exists flag Memory _ = inr refl
+  exists flag NotBuilt never = absurd never
+  exists flag (Usage usage) never = absurd never
+
+  skipped : r.if_db_not_exists ≡ true → (why : Why) → Explains r scene why → (why ≡ SkippedOutput) ⊎ (why ≡ Memory)
+  skipped flag Done (lacks, _) = absurd (absent_size _ size (lacks is.target is.told) is.there)
+  skipped flag SkippedOutput _ = inl refl
+  skipped flag (OutputExists n) (_, unset, _) = absurd (both_ways r.if_db_not_exists flag unset)
+  skipped flag SkippedReplica (_, lacks, _, _) = absurd (absent_size _ size (lacks is.target is.told) is.there)
+  skipped flag NoReplica (_, lacks, _, _) = absurd (absent_size _ size (lacks is.target is.told) is.there)
+  skipped flag NoMoment (_, lacks, _) = absurd (absent_size _ size (lacks is.target is.told) is.there)
+  skipped flag (MissingRange after) (_, lacks, _) = absurd (absent_size _ size (lacks is.target is.told) is.there)
+  skipped flag (Damaged name damage) (_, lacks, _) = absurd (absent_size _ size (lacks is.target is.told) is.there)
+  skipped flag (PageMissing name number) (_, lacks, _) = absurd (absent_size _ size (lacks is.target is.told) is.there)
+  skipped flag StoreFault (_, lacks, _) = absurd (absent_size _ size (lacks is.target is.told) is.there)
+  skipped flag TargetFault (_, rose, _) = absurd (is.calm rose)
+  skipped flag SinkFault (_, lacks, _) = absurd (absent_size _ size (lacks is.target is.told) is.there)
+  skipped flag Memory _ = inr refl
+  skipped flag NotBuilt never = absurd never
+  skipped flag (Usage usage) never = absurd never
+
+pub comes_exactly : (r : Request) (scene : Scene) (why : Why) → Explains r scene why → ComesExactly r scene why
+comes_exactly r scene why explains = record {
+  output_exists = λ size taken flag. exists r scene size taken flag why explains;
+  skipped_output = λ size taken flag. skipped r scene size taken flag why explains;
+  no_replica = λ store told free none flag. no_replica r scene store why none flag (reached r scene store told free why explains);
+  skipped_replica = λ store told free none flag. skipped_replica r scene store why none flag (reached r scene store told free why explains);
+  no_moment = λ store moment told free some is good none. no_moment r scene store why moment some is good none (reached r scene store told free why explains);
+  missing_range = λ store told free some good timely none. missing_range r scene store why some good timely none (reached r scene store told free why explains);
+}
