@@ -1,5 +1,5 @@
 -- The first fault of blocks, and of what ends them, is that of their readers.
-use Rattle.std.proofs.Common.{◌≡◌, ℕ, zero, suc, ◌+◌, ◌-◌, ◌*◌, ◌^◌, ◌<◌, ◌≤◌, Bool, true, false, cond, eqb, ltb, leb, not, ◌&&◌, ◌||◌, List, [], ◌∷◌, ◌++◌, length, take, drop, Option, Some, None, Result, Ok, Err, refl, sym, ap, subst, ◌∙◌, arith, inl, inr}
+use Rattle.std.proofs.Common.{◌≡◌, ℕ, zero, suc, ◌+◌, ◌<◌, ◌≤◌, Bool, false, cond, eqb, ltb, leb, not, ◌&&◌, ◌||◌, List, [], ◌∷◌, length, take, drop, Option, Result, Ok, Err, refl, ap, ◌∙◌, arith, inl, inr}
 use Rattle.std.specs.Option.{option_or}
 use Rattle.std.specs.Int.{w16, w32, w64}
 use Rattle.std.proofs.lemmas.Bool.{cases_Bool, cases_lt, cases_eq, and_parts, eq-eqb, ne_eqb, le-leb, lt-leb, leb-true, ltb-true}
@@ -8,7 +8,7 @@ use Rattle.ltx_format.specs.declared.fault.LtxFault.{LtxFault}
 use Rattle.ltx_format.specs.declared.fault.LtxFault.TheVariants.{Short, BadReserved, BadOrder, BadSum, Extra}
 use Rattle.ltx_format.specs.LtxFormat.{file_sum}
 use Rattle.ltx_format.specs.FirstFault.{first_failed, number, page_size, commit, min_txid, block_tests, page_tests, end_tests, fault_from}
-use Rattle.ltx_format.specs.Reading.{◌>>=◌, where_true, passes, number_at, flags_from, block_at, last_at, page_at, blocks_at, sum_before, end_at}
+use Rattle.ltx_format.specs.Reading.{◌>>=◌, where_true, passes, flags_from, block_at, last_at, page_at, blocks_at, sum_before, end_at}
 use Rattle.ltx_format.proofs.TestSteps.{fault_of, bind_assoc, step, step_then, last_step, first_then-or, number_to, number_short, flags_steps-or}
 use Rattle.ltx_format.proofs.BlockLoop.{Blocks}
 

@@ -1,18 +1,16 @@
 -- The first fault of a header is that of its reader.
-use Rattle.std.proofs.Common.{◌≡◌, ℕ, ◌+◌, ◌*◌, ◌^◌, ◌<◌, ◌≤◌, Bool, true, false, cond, eqb, ltb, leb, not, ◌&&◌, ◌||◌, List, [], ◌∷◌, ◌++◌, length, drop, Option, Some, None, Result, Ok, Err, refl, sym, ap, subst, ◌∙◌, arith, inl, inr}
-use Rattle.std.specs.Option.{option_or}
+use Rattle.std.proofs.Common.{◌≡◌, ℕ, ◌*◌, ◌^◌, ◌≤◌, Bool, true, false, eqb, leb, not, ◌&&◌, ◌||◌, List, [], ◌∷◌, length, drop, Result, refl, arith, inl, inr}
 use Rattle.std.specs.Int.{w32, w64}
-use Rattle.std.proofs.lemmas.Bool.{cases_Bool, cases_lt, eqb-true, eq-eqb, ne_eqb, le-ltb, lt-ltb, le-leb, lt-leb, eqb-false}
+use Rattle.std.proofs.lemmas.Bool.{cases_Bool, cases_lt, eqb-true, ne_eqb, le-ltb, lt-ltb, le-leb, lt-leb}
 use Rattle.std.proofs.Math.Bool.{or-false}
 use Rattle.ls_base.specs.PageSize.{is_page_size}
 use Rattle.ls_base.specs.declared.place.Place.{Place}
-use Rattle.ls_base.specs.declared.place.Place.TheVariants.{Wal, Rest}
+use Rattle.ls_base.specs.declared.place.Place.TheVariants.{Rest}
 use Rattle.ltx_format.specs.declared.fault.LtxFault.{LtxFault}
-use Rattle.ltx_format.specs.declared.fault.LtxFault.TheVariants.{Short, BadMagic, BadPageSize, BadCommit, BadRange, BadReserved}
-use Rattle.ltx_format.specs.declared.header.LtxHeader.{LtxHeader}
+use Rattle.ltx_format.specs.declared.fault.LtxFault.TheVariants.{BadMagic, BadPageSize, BadCommit, BadRange, BadReserved}
 use Rattle.ltx_format.specs.FirstFault.{Tests, first_failed, number, page_size, commit, min_txid, are_frames, is_in_log, is_at_rest, header_tests, header_fault}
-use Rattle.ltx_format.specs.Reading.{◌>>=◌, where_true, number_at, behind, flags_from, size_from, commit_at, range_from, wal_at, rest_at, place_at, fields_at, header_at}
-use Rattle.ltx_format.proofs.TestSteps.{fault_of, bind_assoc, step_then, last_step, number_here, behind_here, flags_steps}
+use Rattle.ltx_format.specs.Reading.{◌>>=◌, where_true, number_at, behind, size_from, commit_at, range_from, wal_at, rest_at, place_at, fields_at, header_at}
+use Rattle.ltx_format.proofs.TestSteps.{fault_of, step_then, number_here, behind_here, flags_steps}
 
 -- ---- the place
 
@@ -42,8 +40,8 @@ module _ {B : Type 0} (bytes : List ℕ) (next : Place × List ℕ → Result B 
   wal_fault size =
       rw (number_here w64 56 bytes (omega (arith, long)), number_here w32 64 bytes (omega (arith, long)), number_here w32 68 bytes (omega (arith, long)), behind_here w64 72 bytes 0 BadReserved (omega (arith, long)))
       (node_first node (are_frames size (number w64 56 bytes)) (drop 80 bytes) _ next tests (
-        rw (number_here w32 80 bytes (omega (arith, long)), number_here w32 84 bytes (omega (arith, long)))
-        (step_then (are_frames size (number w64 56 bytes)) BadReserved _ next tests (λ are. later _))))
+      rw (number_here w32 80 bytes (omega (arith, long)), number_here w32 84 bytes (omega (arith, long)))
+      (step_then (are_frames size (number w64 56 bytes)) BadReserved _ next tests (λ are. later _))))
 
   abbrev sum_at : List ℕ → Result (Place × List ℕ) LtxFault
   sum_at rest = number_at w64 rest >>= λ sum. where_true (leb (2 ^ 63) sum.0) BadReserved (Rest sum.0, sum.1)
@@ -54,7 +52,7 @@ module _ {B : Type 0} (bytes : List ℕ) (next : Place × List ℕ → Result B 
       rw (behind_here w64 56 bytes 0 BadReserved (omega (arith, long)))
       (three_first (eqb (number w64 56 bytes) 0) (eqb (number w64 64 bytes) 0) node (leb (2 ^ 63) (number w64 80 bytes)) (drop 64 bytes) (drop 72 bytes) (drop 80 bytes) (behind w64 0 BadReserved) (behind w64 0 BadReserved) sum_at next tests
       (behind_here w64 64 bytes 0 BadReserved (omega (arith, long))) (behind_here w64 72 bytes 0 BadReserved (omega (arith, long))) (
-        rw (number_here w64 80 bytes (omega (arith, long))) (step_then (leb (2 ^ 63) (number w64 80 bytes)) BadReserved _ next tests (λ top. later _))))
+      rw (number_here w64 80 bytes (omega (arith, long))) (step_then (leb (2 ^ 63) (number w64 80 bytes)) BadReserved _ next tests (λ top. later _))))
 
   place_fault : fault_of (place_at (page_size bytes) (drop 48 bytes) >>= next) ≡ first_failed ((is_in_log bytes || is_at_rest bytes, BadReserved) ∷ (node, BadReserved) ∷ tests)
   unfolding place_at

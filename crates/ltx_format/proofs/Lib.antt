@@ -13,4 +13,6 @@ pub mod FileLaws
 pub mod Theorems
 pub mod FileFaults
 pub mod FrontLemmas
+pub mod PutLemmas
+pub mod UpToLemmas
 pub mod StandardFacts

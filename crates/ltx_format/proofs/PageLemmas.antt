@@ -12,10 +12,10 @@ use Rattle.ltx_format.proofs.BlockLaws.{AreBlocks}
 
 -- ---- finding
 
-find_here : (number : ℕ) (block : ℕ × List ℕ) (blocks : Blocks) → number ≡ block.0 → find nat_cmp number (block ∷ blocks) ≡ Some block.1
+pub find_here : (number : ℕ) (block : ℕ × List ℕ) (blocks : Blocks) → number ≡ block.0 → find nat_cmp number (block ∷ blocks) ≡ Some block.1
 find_here number block blocks e = rw (le-ltb number block.0 (omega arith), eq-eqb number block.0 e) refl
 
-find_there : (number : ℕ) (block : ℕ × List ℕ) (blocks : Blocks) → (number ≡ block.0 → ⊥) → find nat_cmp number (block ∷ blocks) ≡ find nat_cmp number blocks
+pub find_there : (number : ℕ) (block : ℕ × List ℕ) (blocks : Blocks) → (number ≡ block.0 → ⊥) → find nat_cmp number (block ∷ blocks) ≡ find nat_cmp number blocks
 find_there number block blocks ne =
     elim (cases_Bool (ltb number block.0)) [
       | inl below ↦ rw below refl

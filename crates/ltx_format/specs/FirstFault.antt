@@ -1,6 +1,6 @@
 -- The first fault of bytes: the parts of a file are tested in this order, and the first test that fails
 -- tells.
-use Rattle.std.specs.Prelude.{◌≡◌, ℕ, zero, suc, ◌+◌, ◌-◌, ◌*◌, ◌%◌, ◌^◌, Bool, List, [], ◌∷◌, length, take, drop, Option, Some, None, nat_lt, nat_le, ◌==◌, ◌&&◌, ◌||◌, not, if◌then◌else◌}
+use Rattle.std.specs.Prelude.{◌≡◌, ℕ, zero, suc, ◌+◌, ◌*◌, ◌%◌, ◌^◌, Bool, List, [], ◌∷◌, length, take, drop, Option, Some, None, nat_lt, nat_le, ◌==◌, ◌&&◌, ◌||◌, not, if◌then◌else◌}
 use Rattle.std.specs.Option.{option_or}
 use Rattle.std.specs.Int.{Width, w16, w32, w64, byte_len, from_be_bytes}
 use Rattle.ls_base.specs.PageSize.{is_page_size}
@@ -105,8 +105,8 @@ unfoldable pub fault_from : ℕ → List ℕ → ℕ → ℕ → ℕ → Option 
 fault_from zero bytes count last at = None
 fault_from (suc left) bytes count last at =
     option_or (first_failed (block_tests bytes at)) (
-      if number w32 at bytes == 0 then first_failed (end_tests bytes count at)
-      else option_or (first_failed (page_tests bytes last at)) (fault_from left bytes (suc count) (number w32 at bytes) (at + 6 + page_size bytes))
+    if number w32 at bytes == 0 then first_failed (end_tests bytes count at)
+    else option_or (first_failed (page_tests bytes last at)) (fault_from left bytes (suc count) (number w32 at bytes) (at + 6 + page_size bytes))
     )
 
 -- the first fault of the whole
@@ -114,6 +114,6 @@ unfoldable pub first_fault : List ℕ → Option LtxFault
 first_fault bytes = option_or (header_fault bytes) (fault_from (suc (commit bytes)) bytes 0 0 100)
 
 -- why bytes were not read: their first fault, or want of memory
-abbrev pub ExplainsDecode : List ℕ → DecodeFault → Type 0
-ExplainsDecode bytes (Fault fault) = first_fault bytes ≡ Some fault
-ExplainsDecode bytes Memory = Unit {0}
+abbrev pub TellsFirstFault : List ℕ → DecodeFault → Type 0
+TellsFirstFault bytes (Fault fault) = first_fault bytes ≡ Some fault
+TellsFirstFault bytes Memory = Unit {0}

@@ -11,9 +11,9 @@ use ls_base::{PageSize, Txid};
 /// The length of a header in bytes.
 pub(crate) const HEADER_BYTES: usize = 100;
 /// The first four bytes of each file, `LTX1`, as a number.
-const MAGIC: u32 = 0x4c54_5831;
+pub(crate) const MAGIC: u32 = 0x4c54_5831;
 /// The flags of a file that has no rolling checksums.
-const NO_ROLLING_CHECKSUMS: u32 = 2;
+pub(crate) const NO_ROLLING_CHECKSUMS: u32 = 2;
 /// The greatest length of a database in bytes.
 const DATABASE_BYTES: u64 = 1 << 30;
 

@@ -2,9 +2,12 @@
 //!
 //! The format is a profile of this project's own, after superfly/ltx: a header of 100 bytes, page blocks,
 //! an end of 6 zero bytes and a trailer of 16 bytes. `specs/LtxFormat.antt` says which bytes are the file
-//! of a header and its pages. `decode` answers Ok exactly on those bytes, for that header and those pages,
-//! unless memory runs out. It takes memory for the pages alone, and returns on any bytes. `one_spelling`
-//! is the law that files and values fit one to one.
+//! of a header and its pages, and `specs/FirstFault.antt` tests bytes from the left and says what is wrong
+//! with them first. `decode` answers Ok exactly on the bytes of a file, for its header and its pages, and
+//! else their first fault; it takes memory for the pages alone, and returns on any bytes. `encode` writes
+//! the one file of a header and its pages. `read_ltx_header` looks at the first 100 bytes alone and takes
+//! no memory. `one_spelling` is the law that files and values fit one to one, and `faultless_files` the law
+//! that bytes without a fault are the files.
 //!
 //! Stands on `ls_base`, on `ls_sums` for the sum of a file, and on `byteorder` for the bytes of a number.
 #![tactic(auto)]
@@ -21,9 +24,11 @@ mod spelling;
 #[cfg(test)]
 mod tests;
 mod trailer;
+mod writing;
 
 pub use fault::{DecodeFault, LtxFault};
 pub use file::LtxFile;
 pub use header::LtxHeader;
 pub use reading::{decode, read_ltx_header};
 pub use spelling::{faultless_files, one_spelling};
+pub use writing::encode;

@@ -9,7 +9,7 @@ use crate::field::{behind_u64, u32_at, u64_at};
 use ls_base::{PageSize, Place};
 
 /// The offset of the first frame of a log, which is also the length of the log's header in bytes.
-const FIRST_FRAME: u64 = 32;
+pub(crate) const FIRST_FRAME: u64 = 32;
 /// The length of a frame's header in bytes.
 const FRAME_HEADER_BYTES: u64 = 24;
 /// The greatest length of a log in bytes.

@@ -4,7 +4,7 @@ ghost use Rattle.std.specs.Prelude.{◌≡◌, take, Some, Ok, IfOk, IfErr};
 ghost use Rattle.ls_base.specs.Change.{Change};
 ghost use Rattle.ltx_format.specs.declared.header.LtxHeader.{LtxHeader};
 ghost use Rattle.ltx_format.specs.LtxFormat.{IsLtxFile, HasHeader, change_of, ReadsAs};
-ghost use Rattle.ltx_format.specs.FirstFault.{header_fault, ExplainsDecode};
+ghost use Rattle.ltx_format.specs.FirstFault.{header_fault, TellsFirstFault};
 ghost use Rattle.ltx_format.specs.Reading.{ReadsInMemory, parts, file_at};
 
 use crate::block::pages_of;
@@ -23,7 +23,7 @@ pub fn decode(alloc: Global, bytes: &[u8]) -> Result<LtxFile, DecodeFault>
     // What is spelled so is read, unless memory runs out.
     ensures only { (h : LtxHeader) (c : Change) → IsLtxFile bytes.now h c → ReadsAs result h c }
     // What is wrong with other bytes.
-    ensures fault { IfErr result (λ e. ExplainsDecode bytes.now e) }
+    ensures fault { IfErr result (λ e. TellsFirstFault bytes.now e) }
 {
     file_of(alloc, bytes)
 }

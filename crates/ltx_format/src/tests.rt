@@ -1,5 +1,5 @@
-use crate::{DecodeFault, LtxHeader, decode};
-use ls_base::{PageSize, Place, Txid};
+use crate::{DecodeFault, LtxFault, LtxHeader, decode, encode, read_ltx_header};
+use ls_base::{Bytes, PageSize, Place, Txid};
 use ls_sums::Crc64;
 use std::alloc::{AllocError, Global};
 use std::test::*;
@@ -50,14 +50,6 @@ fn summed(alloc: Global, bytes: &[u8]) -> Result<Vec<u8>, AllocError> {
     Ok(file)
 }
 
-/// Whether the bytes are refused as no file.
-fn is_refused(alloc: Global, bytes: &[u8]) -> bool {
-    matches!(
-        decode(alloc, bytes),
-        Err(DecodeFault::Fault(_))
-    )
-}
-
 #[test]
 fn a_file_of_a_place_in_the_log(rt: HostRuntime) -> Result<(), Fail> {
     let file = summed(rt.alloc(), &two_pages(rt.alloc(), &WAL)?)?;
@@ -94,18 +86,29 @@ fn a_file_of_two_pages_at_rest(rt: HostRuntime) -> Result<(), Fail> {
     Ok(())
 }
 
+/// What `encode` makes of the file that the bytes are.
+fn written_again(alloc: Global, bytes: &[u8]) -> Option<Bytes> {
+    match decode(alloc, bytes) {
+        Ok(file) => encode(alloc, &file).ok(),
+        Err(_) => None,
+    }
+}
+
 #[test]
-fn a_file_of_each_page_size(rt: HostRuntime) -> Result<(), Fail> {
+fn a_file_of_each_page_size_is_written_as_it_was_read(rt: HostRuntime) -> Result<(), Fail> {
     for size in [512u32, 1024, 2048, 4096, 8192, 16384, 32768, 65536] {
-        let mut file = Vec::from_slice(rt.alloc(), &START[..8])?;
-        file.extend_from_slice(&size.to_be_bytes())?;
-        file.extend_from_slice(&[0, 0, 0, 1])?;
-        file.extend_from_slice(&START[16..])?;
-        file.extend_from_slice(&REST)?;
-        file.extend_from_slice(&[0, 0, 0, 1, 0, 0])?;
-        file.extend_from_slice(&vec![in rt.alloc(); 7u8; size as usize]?)?;
-        file.extend_from_slice(&[0; 14])?;
-        let read = decode(rt.alloc(), &summed(rt.alloc(), &file)?)
+        let mut bytes = Vec::from_slice(rt.alloc(), &START[..8])?;
+        bytes.extend_from_slice(&size.to_be_bytes())?;
+        bytes.extend_from_slice(&[0, 0, 0, 1])?;
+        bytes.extend_from_slice(&START[16..])?;
+        bytes.extend_from_slice(&REST)?;
+        bytes.extend_from_slice(&[0, 0, 0, 1, 0, 0])?;
+        bytes.extend_from_slice(&vec![in rt.alloc(); 7u8; size as usize]?)?;
+        bytes.extend_from_slice(&[0; 14])?;
+        let file = summed(rt.alloc(), &bytes)?;
+        let written = written_again(rt.alloc(), &file).ok_or("it is a file")?;
+        assert_eq!(rt; written.as_slice(), file.as_slice());
+        let read = decode(rt.alloc(), written.as_slice())
             .ok()
             .ok_or("it is a file")?;
         assert_eq!(rt; read.header.size.get(), size);
@@ -113,56 +116,93 @@ fn a_file_of_each_page_size(rt: HostRuntime) -> Result<(), Fail> {
     Ok(())
 }
 
-/// Where a byte of the file of two pages is changed, and to what.
-const CHANGES: [(usize, u8); 17] = [
-    // magic, flags, page size, commit
-    (0, 0x4d),
-    (7, 3),
-    (10, 3),
-    (15, 1),
-    (15, 3),
-    // first and last transaction, pre-apply checksum
-    (23, 0),
-    (23, 2),
-    (47, 1),
-    // log's offset and length, node, sum of the place, free bytes
-    (55, 1),
-    (63, 1),
-    (79, 1),
-    (80, 0),
-    (99, 1),
-    // flags of a page, a number that doesn't rise, the end, post-apply checksum
-    (105, 1),
-    (621, 1),
-    (1141, 1),
-    (1149, 1),
+/// Where a byte of the file of two pages is changed, to what, and the first fault then.
+const CHANGES: [(usize, u8, LtxFault); 24] = [
+    (0, 0, LtxFault::BadMagic),
+    (7, 1, LtxFault::Compressed),
+    (7, 0, LtxFault::BadFlags),
+    (7, 4, LtxFault::BadFlags),
+    (11, 1, LtxFault::BadPageSize),
+    (15, 0, LtxFault::BadCommit),
+    (15, 3, LtxFault::BadOrder(0)),
+    (23, 0, LtxFault::BadRange),
+    (23, 2, LtxFault::BadRange),
+    // pre-apply checksum, the log's offset and length, node, sum of the place, free bytes
+    (47, 1, LtxFault::BadReserved),
+    (55, 1, LtxFault::BadReserved),
+    (63, 1, LtxFault::BadReserved),
+    (79, 1, LtxFault::BadReserved),
+    (80, 0, LtxFault::BadReserved),
+    (99, 1, LtxFault::BadReserved),
+    // numbers and flags of the blocks
+    (103, 0, LtxFault::BadOrder(0)),
+    (105, 1, LtxFault::Compressed),
+    (105, 2, LtxFault::BadFlags),
+    (621, 1, LtxFault::BadOrder(1)),
+    (621, 3, LtxFault::BadOrder(3)),
+    (1141, 1, LtxFault::Compressed),
+    // post-apply checksum, a byte of a page, the sum
+    (1142, 1, LtxFault::BadReserved),
+    (
+        200,
+        0x12,
+        LtxFault::BadSum {
+            kept: 0xf856_1898_5aa5_0591,
+            found: 0xcf19_a355_7f75_3b26,
+        },
+    ),
+    (
+        1157,
+        0x90,
+        LtxFault::BadSum {
+            kept: 0xf856_1898_5aa5_0590,
+            found: 0xf856_1898_5aa5_0591,
+        },
+    ),
 ];
 
+/// What is wrong with the bytes.
+fn fault_of(alloc: Global, bytes: &[u8]) -> Option<LtxFault> {
+    match decode(alloc, bytes) {
+        Err(DecodeFault::Fault(fault)) => Some(fault),
+        _ => None,
+    }
+}
+
 #[test]
-fn a_changed_byte_is_refused(rt: HostRuntime) -> Result<(), Fail> {
-    for (place, byte) in CHANGES {
-        let mut file = two_pages(rt.alloc(), &REST)?;
-        if let Some(changed) = file.get_mut(place) {
+fn a_changed_byte_is_told(rt: HostRuntime) -> Result<(), Fail> {
+    for (at, byte, fault) in CHANGES {
+        let mut file = summed(rt.alloc(), &two_pages(rt.alloc(), &REST)?)?;
+        if let Some(changed) = file.get_mut(at) {
             *changed = byte;
         }
-        let file = summed(rt.alloc(), &file)?;
-        assert!(rt; is_refused(rt.alloc(), &file));
+        assert_eq!(rt; fault_of(rt.alloc(), &file), Some(fault), "at {at}");
     }
     Ok(())
 }
 
 #[test]
-fn another_length_or_sum_is_refused(rt: HostRuntime) -> Result<(), Fail> {
+fn another_length_is_told(rt: HostRuntime) -> Result<(), Fail> {
     let mut file = summed(rt.alloc(), &two_pages(rt.alloc(), &REST)?)?;
-    file.push(0)?;
-    assert!(rt; is_refused(rt.alloc(), &file));
-    file.pop();
-    file.pop();
-    assert!(rt; is_refused(rt.alloc(), &file));
-    let mut damaged = summed(rt.alloc(), &two_pages(rt.alloc(), &REST)?)?;
-    if let Some(byte) = damaged.get_mut(200) {
-        *byte = 0x12;
+    for length in [0, 99, 700, 1157] {
+        let front = file.get(..length).ok_or("the front")?;
+        assert_eq!(rt;
+            fault_of(rt.alloc(), front),
+            Some(LtxFault::Short),
+            "of {length}"
+        );
     }
-    assert!(rt; is_refused(rt.alloc(), &damaged));
+    file.push(0)?;
+    assert_eq!(rt; fault_of(rt.alloc(), &file), Some(LtxFault::Extra));
+    Ok(())
+}
+
+#[test]
+fn the_header_alone_is_read(rt: HostRuntime) -> Result<(), Fail> {
+    let file = two_pages(rt.alloc(), &WAL)?;
+    let header = read_ltx_header(&file).ok().ok_or("a header")?;
+    assert_eq!(rt; header.commit, 2);
+    let front = file.get(..99).ok_or("99 bytes")?;
+    assert_eq!(rt; read_ltx_header(front).err(), Some(LtxFault::Short));
     Ok(())
 }

@@ -12,7 +12,7 @@ use ls_sums::Crc64;
 const TOP_BIT: u64 = 1 << 63;
 
 /// The sum that a file of these bytes carries behind them.
-fn file_sum(bytes: &[u8]) -> u64
+pub(crate) fn file_sum(bytes: &[u8]) -> u64
     ensures { result ≡ spec.file_sum bytes.now }
 {
     let mut check = Crc64::new();
