@@ -1,7 +1,8 @@
 -- Where a replica's files tell the truth, the files of a chain to a transaction make its recorded state.
-use Rattle.std.proofs.Common.{◌≡◌, ℕ, ◌<◌, List, [], ◌∷◌, map, get_or, Option, Some, None, refl, sym, ap, ◌∙◌, inl, inr, arith}
-use Rattle.std.specs.Prelude.{unwrap_or}
-use Rattle.std.specs.List.{AllByRecursion}
+use Rattle.std.proofs.Common.{◌≡◌, ℕ, ◌<◌, ◌≤◌, List, [], ◌∷◌, map, get_or, Option, Some, None, refl, sym, ap, ◌∙◌, inl, inr, arith}
+use Rattle.std.specs.Prelude.{unwrap_or, ◌⊎◌}
+use Rattle.std.specs.List.{AllByRecursion, Contains}
+use Rattle.std.proofs.lemmas.Bool.{cases_lt}
 use Rattle.crash_disk.specs.declared.event.Event.{Event}
 use Rattle.crash_disk.specs.Files.{file_at, files_after}
 use Rattle.ls_base.specs.Change.{Change, apply}
@@ -81,3 +82,22 @@ module _ (events : List Event) (history : History) (log : SyncLog) (faithful : I
   pub makes_recorded : (names : List FileName) (first : FileName) (rest : List FileName) (t : ℕ) (state : State) → IsChain names t (first ∷ rest) → AllByRecursion (λ name. 1 < name.min) rest
       → Makes events (first ∷ rest) state → recorded_state history log t ≡ Some state
   makes_recorded names first rest t state chain later makes = chain_leads names first rest makes.files t state chain later makes.are.read makes.are.only makes.makes
+
+-- a chain never leads down
+leads_up : (names chain : List FileName) (from t : ℕ) → LeadsTo names from chain t → from ≤ t
+leads_up names [] from t leads = omega (arith, leads)
+leads_up names (name ∷ chain) from t (there, next, leads) = omega (arith, next.goes_on, leads_up names chain name.max t leads)
+
+begins_later : (name : FileName) (from bound : ℕ) → bound ≤ from → from < name.max → (name.min ≤ 1 → name.max ≤ bound) → ((1 < name.min) ⊎ (name.min ≤ 1)) → 1 < name.min
+begins_later name from bound low beyond reach (inl later) = later
+begins_later name from bound low beyond reach (inr early) = absurd (omega (arith, low, beyond, reach early))
+
+-- Where no file that begins with the first transaction and ends by t reaches past a transaction, none of a chain
+-- from there on to t begins with the first.
+pub begin_later : (names chain : List FileName) (from t bound : ℕ) → bound ≤ from → LeadsTo names from chain t
+    → ((name : FileName) → Contains names name → name.min ≤ 1 → name.max ≤ t → name.max ≤ bound) → AllByRecursion (λ (name : FileName). 1 < name.min) chain
+begin_later names [] from t bound low leads reach = tt
+begin_later names (name ∷ chain) from t bound low (there, next, leads) reach = (
+  begins_later name from bound low next.goes_on (λ early. reach name there early (leads_up names chain name.max t leads)) (cases_lt 1 name.min),
+  begin_later names chain name.max t bound (omega (arith, low, next.goes_on)) leads reach,
+)
