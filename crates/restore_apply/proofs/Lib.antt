@@ -4,4 +4,5 @@ pub mod StagingLemmas
 pub mod StopLemmas
 pub mod OutputLemmas
 pub mod RestoreLemmas
+pub mod DamageLemmas
 pub mod Theorems

@@ -55,7 +55,7 @@ module _ (events : List Event) (history : History) (log : SyncLog) (faithful : I
   file_leads name file from before is only follows recorded =
       let own = faithful_file name file is in
       let turns = own.leads from follows in
-      let change = (only own.header own.change own.file.file).1 in
+      let change = (only.only own.header own.change own.file.file).1 in
       let state = same_state turns.before before (sym turns.recorded ∙ recorded) in
       turns.after ∙ ap (λ (s : State). Some (apply s own.change)) state ∙ ap (λ (c : Change). Some (apply before c)) (sym change)
 

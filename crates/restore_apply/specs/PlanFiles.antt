@@ -2,9 +2,7 @@
 use Rattle.std.specs.Prelude.{◌≡◌, ℕ, List, [], ◌∷◌, ◌++◌, Option, None, unwrap_or, ⊤}
 use Rattle.crash_disk.specs.Fault.{Rose}
 use Rattle.crash_disk.specs.Told.{Told, IfTold}
-use Rattle.ls_base.specs.Change.{Change}
 use Rattle.ltx_format.specs.declared.file.LtxFile.{LtxFile}
-use Rattle.ltx_format.specs.declared.header.LtxHeader.{LtxHeader}
 use Rattle.ltx_format.specs.LtxFormat.{IsLtxFile, change_of}
 use Rattle.replica_store.specs.declared.error.Damage.{Damage}
 use Rattle.replica_store.specs.declared.error.Damage.TheVariants.{SizeDiffers}
@@ -21,10 +19,6 @@ use Rattle.restore_apply.specs.Restoring.{IsFirstDamaged}
 pub record IsFormed (file : LtxFile) : Type 0 where
   pub bytes : List ℕ
   pub is : IsLtxFile bytes file.header (change_of file)
-
--- the bytes are no other file
-abbrev pub IsOnlyFile : List ℕ → LtxFile → Type 0
-IsOnlyFile bytes file = (header : LtxHeader) (change : Change) → IsLtxFile bytes header change → (file.header ≡ header) × (change_of file ≡ change)
 
 -- a file has the size that is wanted, if one is
 abbrev pub FitsSize : Option ℕ → LtxFile → Type 0

@@ -1,5 +1,5 @@
 -- What a restore of a plan does: the names of a chain of files, in their order.
-use Rattle.std.specs.Prelude.{◌≡◌, ℕ, List, [], ◌∷◌, ◌++◌, length}
+use Rattle.std.specs.Prelude.{◌≡◌, ℕ, List, [], ◌∷◌, ◌++◌, length, None}
 use Rattle.crash_disk.specs.declared.event.Event.{Event}
 use Rattle.crash_disk.specs.Fault.{Rose}
 use Rattle.crash_disk.specs.GoesOn.{GoesOn}
@@ -8,6 +8,7 @@ use Rattle.ls_base.specs.Change.{Change}
 use Rattle.ls_base.specs.State.{State, state_bytes}
 use Rattle.ltx_format.specs.declared.file.LtxFile.{LtxFile}
 use Rattle.ltx_format.specs.declared.header.LtxHeader.{LtxHeader}
+use Rattle.ltx_format.specs.FirstFault.{first_fault}
 use Rattle.ltx_format.specs.LtxFormat.{IsLtxFile, change_of}
 use Rattle.replica_store.specs.declared.error.Damage.{Damage}
 use Rattle.replica_store.specs.declared.error.Damage.TheVariants.{SizeDiffers}
@@ -20,10 +21,14 @@ use Rattle.restore_apply.specs.declared.restored.RestoreFault.{RestoreFault}
 use Rattle.restore_apply.specs.declared.restored.RestoreFault.TheVariants.{Damaged, PageMissing, Store, Target, Memory}
 use Rattle.restore_apply.specs.Staging.{WritesFile, MayWriteFile}
 
--- the bytes under the name are no other file
+-- the bytes have no fault, and are no other file
+pub record IsOnlyFile (bytes : List ℕ) (file : LtxFile) : Type 0 where
+  pub only : (header : LtxHeader) (change : Change) → IsLtxFile bytes header change → (file.header ≡ header) × (change_of file ≡ change)
+  pub faultless : first_fault bytes ≡ None
+
+-- the same of the bytes under a name
 abbrev pub IsOnlyFileUnder : List Event → FileName → LtxFile → Type 0
-IsOnlyFileUnder events name file =
-    (header : LtxHeader) (change : Change) → IsLtxFile (bytes_under events (path_of name)) header change → (file.header ≡ header) × (change_of file ≡ change)
+IsOnlyFileUnder events name file = IsOnlyFile (bytes_under events (path_of name)) file
 
 -- the same of each name and its file
 abbrev pub AreOnlyFilesUnder : List Event → List FileName → List LtxFile → Type 0

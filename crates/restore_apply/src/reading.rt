@@ -5,8 +5,8 @@ ghost use Rattle.std.specs.List.{AllByRecursion};
 ghost use Rattle.crash_disk.specs.Told.{IfTold};
 ghost use Rattle.ltx_format.specs.LtxFormat.{change_of};
 ghost use Rattle.replica_store.specs.FileOf.{IsFileOf, IsFileUnder, AreFilesUnder};
-ghost use Rattle.restore_apply.specs.PlanFiles.{IsFormed, IsOnlyFile, FitsSize, ExplainsFile, ExplainsRead, ExplainsReads};
-ghost use Rattle.restore_apply.specs.Restoring.{IsOnlyFileUnder, AreOnlyFilesUnder};
+ghost use Rattle.restore_apply.specs.PlanFiles.{IsFormed, FitsSize, ExplainsFile, ExplainsRead, ExplainsReads};
+ghost use Rattle.restore_apply.specs.Restoring.{IsOnlyFile, IsOnlyFileUnder, AreOnlyFilesUnder};
 ghost use Rattle.restore_apply.specs.Sources.{HaveOneSize};
 
 use crate::restored::RestoreFault;
