@@ -9,11 +9,15 @@ use Rattle.ls_words.specs.declared.command.Target.TheVariants.{Newest, At, Momen
 use Rattle.replica_store.specs.declared.error.Damage.{Damage}
 use Rattle.replica_store.specs.declared.file_name.FileName.{FileName}
 use Rattle.replica_store.specs.Listing.{AreListed, path_of, paths_of}
+use Rattle.crash_disk.specs.Fault.{Rose}
+use Rattle.ls_base.specs.State.{State}
+use Rattle.restore_apply.specs.Restoring.{Makes, IsFirstDamaged, IsFirstMissing}
+use Rattle.restore_apply.proofs.DamageLemmas.{undamaged, unspoilt, complete}
 use Rattle.litestream_core.specs.declared.outcome.Why.{Why}
 use Rattle.litestream_core.specs.declared.outcome.Why.TheVariants.{Done, SkippedOutput, SkippedReplica, NotBuilt, Usage, NoReplica, MissingRange, NoMoment, Damaged, PageMissing, OutputExists, StoreFault, TargetFault, SinkFault, Memory}
 use Rattle.litestream_core.specs.Asked.{AreNames, IsAsked, IsOfMoment, IsPlan, IsMissing, IsBefore, IsBadHeader}
-use Rattle.litestream_core.specs.Command.{Scene, Explains}
-use Rattle.litestream_core.specs.Exact.{IsFree, IsTaken, HeadersAreGood, IsInTime, HasNoneOf, HasNoChain, ComesExactly}
+use Rattle.litestream_core.specs.Command.{Scene, Explains, NotRisen}
+use Rattle.litestream_core.specs.Exact.{IsFree, IsTaken, HeadersAreGood, IsInTime, HasNoneOf, HasNoChain, MayBePlanned, PlanIsDamaged, PlanLacksPage, PlanMakesState, ComesExactly}
 use Rattle.litestream_core.specs.Request.{Request}
 
 absent_size : (o : Option (List ℕ)) (n : ℕ) → o ≡ None → option_map length o ≡ Some n → ⊥
@@ -39,6 +43,12 @@ none_listed store (name ∷ names) none are =
     let never = (none.each (path_of name)).1 there in
     absurd (omega (arith, never.1))
 
+-- what became of a plan
+data Ended (scene : Scene) (store : List Event) (plan : List FileName) (why : Why) : Type 0 where
+  Made : (state : State) → Makes store plan state → (why ≡ Done) ⊎ Rose scene.sink_faults scene.sink_faults_after → Ended scene store plan why
+  Spoilt : (name : FileName) (damage : Damage) → why ≡ Damaged name damage → IsFirstDamaged store plan name damage → Ended scene store plan why
+  Lacked : (name : FileName) (number : ℕ) → why ≡ PageMissing name number → IsFirstMissing store plan name number → Ended scene store plan why
+
 -- how far a restore came, where its output's name was free and no disk failed
 data Reached (r : Request) (scene : Scene) (store : List Event) (why : Why) : Type 0 where
   OutOfMemory : why ≡ Memory → Reached r scene store why
@@ -46,11 +56,11 @@ data Reached (r : Request) (scene : Scene) (store : List Event) (why : Why) : Ty
   TooEarly : why ≡ NoMoment → IsBefore store r → Reached r scene store why
   LacksChain : (after : ℕ) → why ≡ MissingRange after → IsMissing store r after → Reached r scene store why
   ReadsBadHeader : (name : FileName) (damage : Damage) → IsBadHeader store r name damage → Reached r scene store why
-  HasPlan : (t : ℕ) (plan : List FileName) → IsPlan store r t plan → Reached r scene store why
+  HasPlan : (t : ℕ) (plan : List FileName) → IsPlan store r t plan → Ended scene store plan why → Reached r scene store why
 
 module _ (r : Request) (scene : Scene) (store : List Event) (told : scene.store ≡ Some store) (is : IsFree r scene) where
   reached : (why : Why) → Explains r scene why → Reached r scene store why
-  reached Done (_, tells) = let it = (tells store told).restored in HasPlan it.t it.plan it.is
+  reached Done (_, tells) = let it = (tells store told).restored in HasPlan it.t it.plan it.is (Made it.state it.makes (inl refl))
   reached SkippedOutput (_, _, there) = absurd (absent_there _ is.free (there is.target is.told))
   reached (OutputExists n) (_, _, there) = absurd (absent_size _ n is.free (there is.target is.told))
   reached SkippedReplica (_, _, flag, none) = NamesNone (none store told) (inl (refl, flag))
@@ -59,12 +69,12 @@ module _ (r : Request) (scene : Scene) (store : List Event) (told : scene.store 
   reached (MissingRange after) (_, _, missing) = LacksChain after refl (missing store told)
   reached (Damaged name damage) (_, _, bad) = elim (bad store told) [
     | inl header ↦ ReadsBadHeader name damage header
-    | inr plan ↦ HasPlan plan.t plan.plan plan.is
+    | inr plan ↦ HasPlan plan.t plan.plan plan.is (Spoilt name damage refl plan.first)
   ]
-  reached (PageMissing name number) (_, _, missing) = let it = missing store told in HasPlan it.t it.plan it.is
+  reached (PageMissing name number) (_, _, missing) = let it = missing store told in HasPlan it.t it.plan it.is (Lacked name number refl it.first)
   reached StoreFault (_, _, rose) = absurd (is.store_calm rose)
   reached TargetFault (_, rose, _) = absurd (is.calm rose)
-  reached SinkFault (_, _, untold) = let it = (untold store told).restored in HasPlan it.t it.plan it.is
+  reached SinkFault (rose, _, untold) = let it = (untold store told).restored in HasPlan it.t it.plan it.is (Made it.state it.makes (inr rose))
   reached Memory _ = OutOfMemory refl
   reached NotBuilt never = absurd never
   reached (Usage usage) never = absurd never
@@ -77,7 +87,7 @@ module _ (r : Request) (scene : Scene) (store : List Event) where
   no_replica why none flag (TooEarly _ before) = absurd (none_listed store before.names none before.are)
   no_replica why none flag (LacksChain after _ missing) = absurd (none_listed store missing.names none missing.are)
   no_replica why none flag (ReadsBadHeader name damage bad) = absurd (none_listed store bad.names none bad.are)
-  no_replica why none flag (HasPlan t plan planned) = absurd (none_listed store planned.names none planned.are)
+  no_replica why none flag (HasPlan t plan planned _) = absurd (none_listed store planned.names none planned.are)
 
   skipped_replica : (why : Why) → AreListed store [] → r.if_replica_exists ≡ true → Reached r scene store why → (why ≡ SkippedReplica) ⊎ (why ≡ Memory)
   skipped_replica why none flag (OutOfMemory e) = inr e
@@ -86,7 +96,7 @@ module _ (r : Request) (scene : Scene) (store : List Event) where
   skipped_replica why none flag (TooEarly _ before) = absurd (none_listed store before.names none before.are)
   skipped_replica why none flag (LacksChain after _ missing) = absurd (none_listed store missing.names none missing.are)
   skipped_replica why none flag (ReadsBadHeader name damage bad) = absurd (none_listed store bad.names none bad.are)
-  skipped_replica why none flag (HasPlan t plan planned) = absurd (none_listed store planned.names none planned.are)
+  skipped_replica why none flag (HasPlan t plan planned _) = absurd (none_listed store planned.names none planned.are)
 
   of_moment : (moment : ℤ) (names : List FileName) (t : ℕ) → r.target ≡ Moment moment → IsAsked store names r.target t → IsOfMoment store names moment t
   of_moment moment names t is asked = subst (λ (target : Target). IsAsked store names target t) is asked
@@ -97,7 +107,7 @@ module _ (r : Request) (scene : Scene) (store : List Event) where
   no_moment why moment some is good none (TooEarly e _) = inl e
   no_moment why moment some is good none (LacksChain after _ missing) = absurd (none missing.names missing.are missing.t (of_moment moment missing.names missing.t is missing.asked))
   no_moment why moment some is good none (ReadsBadHeader name damage bad) = absurd (good bad.names bad.are name damage bad.bad)
-  no_moment why moment some is good none (HasPlan t plan planned) = absurd (none planned.names planned.are t (of_moment moment planned.names t is planned.asked))
+  no_moment why moment some is good none (HasPlan t plan planned _) = absurd (none planned.names planned.are t (of_moment moment planned.names t is planned.asked))
 
   missing_range : (why : Why) → (AreListed store [] → ⊥) → HeadersAreGood store r → IsInTime store r → HasNoChain store r → Reached r scene store why → ((after : ℕ) × (why ≡ MissingRange after)) ⊎ (why ≡ Memory)
   missing_range why some good timely none (OutOfMemory e) = inr e
@@ -105,7 +115,38 @@ module _ (r : Request) (scene : Scene) (store : List Event) where
   missing_range why some good timely none (TooEarly _ before) = absurd (timely before.names before.are before.lacks)
   missing_range why some good timely none (LacksChain after e _) = inl (after, e)
   missing_range why some good timely none (ReadsBadHeader name damage bad) = absurd (good bad.names bad.are name damage bad.bad)
-  missing_range why some good timely none (HasPlan t plan planned) = absurd (none planned.names planned.are t planned.asked planned.retained)
+  missing_range why some good timely none (HasPlan t plan planned _) = absurd (none planned.names planned.are t planned.asked planned.retained)
+
+  -- with a plan, only what became of it is left
+  planned : (why : Why) → MayBePlanned store r → Reached r scene store why → (why ≡ Memory) ⊎ ((t : ℕ) × (plan : List FileName) × IsPlan store r t plan × Ended scene store plan why)
+  planned why may (OutOfMemory e) = inl e
+  planned why may (NamesNone listed _) = absurd (may.some listed)
+  planned why may (TooEarly _ before) = absurd (may.in_time before.names before.are before.lacks)
+  planned why may (LacksChain after _ missing) = absurd (may.chain after missing)
+  planned why may (ReadsBadHeader name damage bad) = absurd (may.good bad.names bad.are name damage bad.bad)
+  planned why may (HasPlan t plan is ended) = inr (t, plan, is, ended)
+
+  damaged : (why : Why) → PlanIsDamaged store r → (why ≡ Memory) ⊎ ((t : ℕ) × (plan : List FileName) × IsPlan store r t plan × Ended scene store plan why)
+      → ((name : FileName) × (damage : Damage) × (why ≡ Damaged name damage)) ⊎ (why ≡ Memory)
+  damaged why bad (inl e) = inr e
+  damaged why bad (inr (t, plan, is, Made state makes _)) = let first = bad t plan is in absurd (undamaged store plan state first.0 first.1 makes first.2)
+  damaged why bad (inr (t, plan, is, Spoilt name damage e _)) = inl (name, damage, e)
+  damaged why bad (inr (t, plan, is, Lacked name number _ missing)) = let first = bad t plan is in absurd (unspoilt store plan first.0 first.1 missing.files missing.are first.2)
+
+  page_missing : (why : Why) → PlanLacksPage store r → (why ≡ Memory) ⊎ ((t : ℕ) × (plan : List FileName) × IsPlan store r t plan × Ended scene store plan why)
+      → ((name : FileName) × (number : ℕ) × (why ≡ PageMissing name number)) ⊎ (why ≡ Memory)
+  page_missing why bad (inl e) = inr e
+  page_missing why bad (inr (t, plan, is, Made state makes _)) = let first = bad t plan is in absurd (complete store plan state first.0 first.1 makes first.2)
+  page_missing why bad (inr (t, plan, is, Spoilt name damage _ spoilt)) = let first = bad t plan is in absurd (unspoilt store plan name damage first.2.files first.2.are spoilt)
+  page_missing why bad (inr (t, plan, is, Lacked name number e _)) = inl (name, number, e)
+
+  done : (why : Why) → PlanMakesState store r → NotRisen scene.sink_faults scene.sink_faults_after → (why ≡ Memory) ⊎ ((t : ℕ) × (plan : List FileName) × IsPlan store r t plan × Ended scene store plan why)
+      → (why ≡ Done) ⊎ (why ≡ Memory)
+  done why good calm (inl e) = inr e
+  done why good calm (inr (t, plan, is, Made state makes (inl e))) = inl e
+  done why good calm (inr (t, plan, is, Made state makes (inr rose))) = absurd (calm rose)
+  done why good calm (inr (t, plan, is, Spoilt name damage _ spoilt)) = let makes = good t plan is in absurd (undamaged store plan makes.0 name damage makes.1 spoilt)
+  done why good calm (inr (t, plan, is, Lacked name number _ missing)) = let makes = good t plan is in absurd (complete store plan makes.0 name number makes.1 missing)
 
 module _ (r : Request) (scene : Scene) (size : ℕ) (is : IsTaken r scene size) where
   exists : r.if_db_not_exists ≡ false → (why : Why) → Explains r scene why → (why ≡ OutputExists size) ⊎ (why ≡ Memory)
@@ -149,5 +190,8 @@ comes_exactly r scene why explains = record {
   no_replica = λ store told free none flag. no_replica r scene store why none flag (reached r scene store told free why explains);
   skipped_replica = λ store told free none flag. skipped_replica r scene store why none flag (reached r scene store told free why explains);
   no_moment = λ store moment told free some is good none. no_moment r scene store why moment some is good none (reached r scene store told free why explains);
+  damaged = λ store told free may bad. damaged r scene store why bad (planned r scene store why may (reached r scene store told free why explains));
+  page_missing = λ store told free may bad. page_missing r scene store why bad (planned r scene store why may (reached r scene store told free why explains));
+  done = λ store told free may good calm. done r scene store why good calm (planned r scene store why may (reached r scene store told free why explains));
   missing_range = λ store told free some good timely none. missing_range r scene store why some good timely none (reached r scene store told free why explains);
 }

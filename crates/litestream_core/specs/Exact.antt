@@ -8,9 +8,11 @@ use Rattle.replica_store.specs.declared.error.Damage.{Damage}
 use Rattle.replica_store.specs.declared.file_name.FileName.{FileName}
 use Rattle.replica_store.specs.Chain.{IsRetained}
 use Rattle.replica_store.specs.Listing.{AreListed}
+use Rattle.ls_base.specs.State.{State}
+use Rattle.restore_apply.specs.Restoring.{Makes, IsFirstDamaged, IsFirstMissing}
 use Rattle.litestream_core.specs.declared.outcome.Why.{Why}
-use Rattle.litestream_core.specs.declared.outcome.Why.TheVariants.{SkippedOutput, SkippedReplica, NoReplica, MissingRange, NoMoment, OutputExists, Memory}
-use Rattle.litestream_core.specs.Asked.{AreNames, IsAsked, IsOfMoment, LacksMoment, HasBadHeader}
+use Rattle.litestream_core.specs.declared.outcome.Why.TheVariants.{Done, SkippedOutput, SkippedReplica, NoReplica, MissingRange, NoMoment, Damaged, PageMissing, OutputExists, Memory}
+use Rattle.litestream_core.specs.Asked.{AreNames, IsAsked, IsOfMoment, LacksMoment, HasBadHeader, IsPlan, IsMissing}
 use Rattle.litestream_core.specs.Command.{Scene, NotRisen}
 use Rattle.litestream_core.specs.Request.{Request}
 
@@ -45,6 +47,25 @@ HasNoneOf store moment = (names : List FileName) → AreNames store names → (t
 abbrev pub HasNoChain : List Event → Request → Type 0
 HasNoChain store r = (names : List FileName) → AreNames store names → (t : ℕ) → IsAsked store names r.target t → IsRetained names t → ⊥
 
+-- a chain leads to the transaction that is asked for, and nothing refuses before the plan's files are read
+pub record MayBePlanned (store : List Event) (r : Request) : Type 0 where
+  pub some : AreListed store [] → ⊥
+  pub good : HeadersAreGood store r
+  pub in_time : IsInTime store r
+  pub chain : (after : ℕ) → IsMissing store r after → ⊥
+
+-- a file of the plan is damaged
+abbrev pub PlanIsDamaged : List Event → Request → Type 0
+PlanIsDamaged store r = (t : ℕ) (plan : List FileName) → IsPlan store r t plan → (name : FileName) × (damage : Damage) × IsFirstDamaged store plan name damage
+
+-- a page of the plan is missing, and no file of it is damaged
+abbrev pub PlanLacksPage : List Event → Request → Type 0
+PlanLacksPage store r = (t : ℕ) (plan : List FileName) → IsPlan store r t plan → (name : FileName) × (number : ℕ) × IsFirstMissing store plan name number
+
+-- the plan's files make a state
+abbrev pub PlanMakesState : List Event → Request → Type 0
+PlanMakesState store r = (t : ℕ) (plan : List FileName) → IsPlan store r t plan → (state : State) × Makes store plan state
+
 pub record ComesExactly (r : Request) (scene : Scene) (why : Why) : Type 0 where
   pub output_exists : (size : ℕ) → IsTaken r scene size → r.if_db_not_exists ≡ false → (why ≡ OutputExists size) ⊎ (why ≡ Memory)
   pub skipped_output : (size : ℕ) → IsTaken r scene size → r.if_db_not_exists ≡ true → (why ≡ SkippedOutput) ⊎ (why ≡ Memory)
@@ -54,3 +75,9 @@ pub record ComesExactly (r : Request) (scene : Scene) (why : Why) : Type 0 where
       → (why ≡ NoMoment) ⊎ (why ≡ Memory)
   pub missing_range : (store : List Event) → scene.store ≡ Some store → IsFree r scene → (AreListed store [] → ⊥) → HeadersAreGood store r → IsInTime store r → HasNoChain store r
       → ((after : ℕ) × (why ≡ MissingRange after)) ⊎ (why ≡ Memory)
+  pub damaged : (store : List Event) → scene.store ≡ Some store → IsFree r scene → MayBePlanned store r → PlanIsDamaged store r
+      → ((name : FileName) × (damage : Damage) × (why ≡ Damaged name damage)) ⊎ (why ≡ Memory)
+  pub page_missing : (store : List Event) → scene.store ≡ Some store → IsFree r scene → MayBePlanned store r → PlanLacksPage store r
+      → ((name : FileName) × (number : ℕ) × (why ≡ PageMissing name number)) ⊎ (why ≡ Memory)
+  pub done : (store : List Event) → scene.store ≡ Some store → IsFree r scene → MayBePlanned store r → PlanMakesState store r → NotRisen scene.sink_faults scene.sink_faults_after
+      → (why ≡ Done) ⊎ (why ≡ Memory)

@@ -13,7 +13,7 @@ use Rattle.replica_store.specs.declared.file_name.FileName.{FileName}
 use Rattle.replica_store.specs.Applying.{AppliesTo, LacksPage}
 use Rattle.replica_store.specs.FileOf.{IsDamage, IsFileUnder, AreFilesUnder, HavePageSize}
 use Rattle.replica_store.specs.Listing.{path_of, bytes_under}
-use Rattle.restore_apply.specs.Restoring.{IsOnlyFileUnder, AreOnlyFilesUnder, Makes, IsFirstDamaged, IsFirstMissing}
+use Rattle.restore_apply.specs.Restoring.{IsOnlyFileUnder, AreOnlyFilesUnder, ArePlanFiles, Makes, IsFirstDamaged, IsFirstMissing}
 
 no_fault : (found : Option LtxFault) (fault : LtxFault) → found ≡ None → found ≡ Some fault → ⊥
 no_fault found fault none some = cc
@@ -55,13 +55,16 @@ wanted_size events name [] after files read size wanted damage only sized are si
 wanted_size events name (one ∷ before) after files read size wanted damage only sized are sizes first differs =
     before_size events one before (before ++ name ∷ after) files read size wanted only sized are sizes
 
+-- no file of a plan that was read is damaged
+pub unspoilt : (events : List Event) (plan : List FileName) (name : FileName) (damage : Damage) (files : List LtxFile) → ArePlanFiles events plan files → IsFirstDamaged events plan name damage → ⊥
+unspoilt events plan name damage files of first =
+    let are = subst (λ (names : List FileName). AreFilesUnder events names files) first.split of.read in
+    let only = subst (λ (names : List FileName). AreOnlyFilesUnder events names files) first.split of.only in
+    damaged_at events name first.before first.after files of.size first.size damage are only of.one_size
+    (wanted_size events name first.before first.after files first.files of.size first.size damage only of.one_size first.read first.one_size first.first) first.damaged
+
 pub undamaged : (events : List Event) (plan : List FileName) (state : State) (name : FileName) (damage : Damage) → Makes events plan state → IsFirstDamaged events plan name damage → ⊥
-undamaged events plan state name damage makes first =
-    let plan-is = first.split in
-    let are = subst (λ (names : List FileName). AreFilesUnder events names makes.files) plan-is makes.are.read in
-    let only = subst (λ (names : List FileName). AreOnlyFilesUnder events names makes.files) plan-is makes.are.only in
-    damaged_at events name first.before first.after makes.files makes.are.size first.size damage are only makes.are.one_size
-    (wanted_size events name first.before first.after makes.files first.files makes.are.size first.size damage only makes.are.one_size first.read first.one_size first.first) first.damaged
+undamaged events plan state name damage makes first = unspoilt events plan name damage makes.files makes.are first
 
 -- ---- pages
 
