@@ -19,6 +19,7 @@ use Rattle.litestream_core.specs.Asked.{AreNames, IsAsked, IsOfMoment, IsPlan, I
 use Rattle.litestream_core.specs.Command.{Scene, Explains, NotRisen}
 use Rattle.litestream_core.specs.Exact.{IsFree, IsTaken, HeadersAreGood, IsInTime, HasNoneOf, HasNoChain, MayBePlanned, PlanIsDamaged, PlanLacksPage, PlanMakesState, ComesExactly}
 use Rattle.litestream_core.specs.Request.{Request}
+use Rattle.litestream_core.proofs.FaithfulLemmas.{plan_makes}
 
 absent_size : (o : Option (List ℕ)) (n : ℕ) → o ≡ None → option_map length o ≡ Some n → ⊥
 absent_size None n none some = absurd cc
@@ -193,5 +194,7 @@ comes_exactly r scene why explains = record {
   damaged = λ store told free may bad. damaged r scene store why bad (planned r scene store why may (reached r scene store told free why explains));
   page_missing = λ store told free may bad. page_missing r scene store why bad (planned r scene store why may (reached r scene store told free why explains));
   done = λ store told free may good calm. done r scene store why good calm (planned r scene store why may (reached r scene store told free why explains));
+  faithful = λ store history log told faithful bytes free may calm.
+      done r scene store why (plan_makes store r history log faithful bytes) calm (planned r scene store why may (reached r scene store told free why explains));
   missing_range = λ store told free some good timely none. missing_range r scene store why some good timely none (reached r scene store told free why explains);
 }

@@ -20,7 +20,7 @@ two_at_least zero low other = absurd (omega (arith, low))
 two_at_least (suc zero) low other = absurd (other refl)
 two_at_least (suc (suc m)) low other = omega arith
 
-valid_in : (names : List FileName) (name : FileName) → All IsValid names → Contains names name → IsValid name
+pub valid_in : (names : List FileName) (name : FileName) → All IsValid names → Contains names name → IsValid name
 valid_in names name all has = subst IsValid has.2 (all has.0 name has.1)
 
 module _ (names : List FileName) (t : ℕ) (valid : All IsValid names) where
@@ -33,7 +33,7 @@ module _ (names : List FileName) (t : ℕ) (valid : All IsValid names) where
         later name.max chain (omega (arith, best.leads.next.goes_on)) (λ other there first within. let short = reach other there first within in omega (arith, short, best.leads.next.goes_on)) rest,
       )
 
-  behind_first : (first : FileName) (rest : List FileName) → IsChosenBetween names t 0 (first ∷ rest) t → AllByRecursion (λ name. 1 < name.min) rest
+  pub behind_first : (first : FileName) (rest : List FileName) → IsChosenBetween names t 0 (first ∷ rest) t → AllByRecursion (λ name. 1 < name.min) rest
   behind_first first rest (best, chosen) =
       later first.max rest best.leads.next.goes_on (λ other there one within. (best.best other (record {
         there = there;

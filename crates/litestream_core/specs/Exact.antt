@@ -1,13 +1,16 @@
 -- When each answer of a restore comes: where its condition holds, no earlier step refuses and no count of faults rose,
 -- it is the answer, unless memory runs out.
-use Rattle.std.specs.Prelude.{◌≡◌, ℕ, ℤ, List, [], true, false, None, Some, ◌⊎◌}
+use Rattle.std.specs.Prelude.{◌≡◌, ℕ, ◌^◌, ◌<◌, ℤ, List, [], true, false, None, Some, slice_index, ◌⊎◌}
 use Rattle.crash_disk.specs.declared.event.Event.{Event}
-use Rattle.crash_disk.specs.Files.{file_at, size_of}
+use Rattle.crash_disk.specs.Files.{file_at, size_of, files_after}
+use Rattle.ls_base.specs.History.{History}
+use Rattle.ls_base.specs.SyncLog.{SyncLog}
 use Rattle.ls_words.specs.declared.command.Target.TheVariants.{Moment}
 use Rattle.replica_store.specs.declared.error.Damage.{Damage}
 use Rattle.replica_store.specs.declared.file_name.FileName.{FileName}
 use Rattle.replica_store.specs.Chain.{IsRetained}
-use Rattle.replica_store.specs.Listing.{AreListed}
+use Rattle.replica_store.specs.Faithful.{IsFaithful}
+use Rattle.replica_store.specs.Listing.{AreListed, bytes_under}
 use Rattle.ls_base.specs.State.{State}
 use Rattle.restore_apply.specs.Restoring.{Makes, IsFirstDamaged, IsFirstMissing}
 use Rattle.litestream_core.specs.declared.outcome.Why.{Why}
@@ -66,6 +69,10 @@ PlanLacksPage store r = (t : ℕ) (plan : List FileName) → IsPlan store r t pl
 abbrev pub PlanMakesState : List Event → Request → Type 0
 PlanMakesState store r = (t : ℕ) (plan : List FileName) → IsPlan store r t plan → (state : State) × Makes store plan state
 
+-- each value of each file is a byte
+abbrev pub HoldsBytes : List Event → Type 0
+HoldsBytes store = (path : List ℕ) (k : ℕ) → slice_index (bytes_under store path) k < 2 ^ 8
+
 pub record ComesExactly (r : Request) (scene : Scene) (why : Why) : Type 0 where
   pub output_exists : (size : ℕ) → IsTaken r scene size → r.if_db_not_exists ≡ false → (why ≡ OutputExists size) ⊎ (why ≡ Memory)
   pub skipped_output : (size : ℕ) → IsTaken r scene size → r.if_db_not_exists ≡ true → (why ≡ SkippedOutput) ⊎ (why ≡ Memory)
@@ -81,3 +88,6 @@ pub record ComesExactly (r : Request) (scene : Scene) (why : Why) : Type 0 where
       → ((name : FileName) × (number : ℕ) × (why ≡ PageMissing name number)) ⊎ (why ≡ Memory)
   pub done : (store : List Event) → scene.store ≡ Some store → IsFree r scene → MayBePlanned store r → PlanMakesState store r → NotRisen scene.sink_faults scene.sink_faults_after
       → (why ≡ Done) ⊎ (why ≡ Memory)
+  -- a store that tells the truth is never damaged and lacks no page
+  pub faithful : (store : List Event) (history : History) (log : SyncLog) → scene.store ≡ Some store → IsFaithful (files_after store) history log → HoldsBytes store → IsFree r scene → MayBePlanned store r
+      → NotRisen scene.sink_faults scene.sink_faults_after → (why ≡ Done) ⊎ (why ≡ Memory)
