@@ -15,8 +15,6 @@ mod line;
 mod outcome;
 mod prepare;
 mod request;
-#[cfg(test)]
-mod tests;
 
 pub use command::litestream;
 pub use outcome::{Outcome, Why};

@@ -1,0 +1,32 @@
+//! Carrying out a line of words.
+
+use crash_disk::{MemDisk, MemOut};
+use litestream_core::{Outcome, litestream};
+use ls_base::Memory;
+use ls_words::Words;
+use std::alloc::Global;
+
+/// The words of a line with one space between each two.
+fn words_of(alloc: Global, line: &str) -> Result<Words, Memory> {
+    let mut words = Words::new(alloc);
+    for word in line.split(' ') {
+        if words.len() >= 100 {
+            break;
+        }
+        words.push(word)?;
+    }
+    Ok(words)
+}
+
+/// What the command of the line ends with, over these disks and this output.
+pub fn carried_out(
+    alloc: Global,
+    line: &str,
+    store: &mut MemDisk,
+    target: &mut MemDisk,
+    out: &mut MemOut,
+) -> Result<Outcome, Memory> {
+    let words = words_of(alloc, line)?;
+    let mut err = MemOut::new(alloc);
+    Ok(litestream(alloc, &words, store, target, out, &mut err))
+}

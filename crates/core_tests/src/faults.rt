@@ -1,0 +1,75 @@
+//! Restores of which one call fails.
+
+use crate::carrying::carried_out;
+use crate::files::{WHOLE, holds, replica};
+use crate::stops::{CALLS, LINE, PAGES, RENAMED};
+use crash_disk::{Disk, MemDisk, MemOut, Out};
+use litestream_core::Why;
+use std::alloc::Global;
+use std::process::Abort;
+use std::test::Fail;
+
+/// How many calls on the replica's disk a restore of one file makes: attach, the names, the size and the bytes of
+/// the file.
+const STORE_CALLS: u64 = 4;
+
+fn check_target(rt: &impl Abort, alloc: Global, call: u64) -> Result<(), Fail> {
+    let mut store = replica(alloc, &[WHOLE])?;
+    let mut target = MemDisk::new(alloc);
+    target.fail_at(call)?;
+    let mut out = MemOut::new(alloc);
+    let outcome = carried_out(alloc, LINE, &mut store, &mut target, &mut out)?;
+    assert_eq!(rt; outcome.why, Why::TargetFault, "call {call}");
+    assert_eq!(rt; outcome.status, 3, "call {call}");
+    assert_eq!(rt; target.faults(), 1, "call {call}");
+    assert_eq!(rt; out.bytes(), b"".as_slice(), "call {call}");
+    let left: &[u8] = if call > RENAMED { &PAGES } else { &[] };
+    assert!(rt; holds(alloc, &mut target, left)?, "call {call}");
+    assert_eq!(rt; target.size("o.litestream-tmp")?, None, "call {call}");
+    Ok(())
+}
+
+#[test]
+fn a_failing_call_on_the_target_is_told(rt: HostRuntime) -> Result<(), Fail> {
+    for before in 0..CALLS {
+        check_target(&rt, rt.alloc(), before + 1)?;
+    }
+    Ok(())
+}
+
+fn check_store(rt: &impl Abort, alloc: Global, call: u64) -> Result<(), Fail> {
+    let mut store = replica(alloc, &[WHOLE])?;
+    store.fail_at(call)?;
+    let mut target = MemDisk::new(alloc);
+    let mut out = MemOut::new(alloc);
+    let outcome = carried_out(alloc, LINE, &mut store, &mut target, &mut out)?;
+    let passes = call > STORE_CALLS;
+    let why = if passes { Why::Done } else { Why::StoreFault };
+    assert_eq!(rt; outcome.why, why, "call {call}");
+    assert_eq!(rt; outcome.status, if passes { 0 } else { 3 }, "call {call}");
+    let left: &[u8] = if passes { &PAGES } else { &[] };
+    assert!(rt; holds(alloc, &mut target, left)?, "call {call}");
+    Ok(())
+}
+
+#[test]
+fn a_failing_call_on_the_store_is_told(rt: HostRuntime) -> Result<(), Fail> {
+    for before in 0..=STORE_CALLS {
+        check_store(&rt, rt.alloc(), before + 1)?;
+    }
+    Ok(())
+}
+
+#[test]
+fn a_failing_output_stream_is_told(rt: HostRuntime) -> Result<(), Fail> {
+    let mut store = replica(rt.alloc(), &[WHOLE])?;
+    let mut target = MemDisk::new(rt.alloc());
+    let mut out = MemOut::new(rt.alloc());
+    out.fail_at(1)?;
+    let outcome = carried_out(rt.alloc(), LINE, &mut store, &mut target, &mut out)?;
+    assert_eq!(rt; outcome.why, Why::SinkFault);
+    assert_eq!(rt; outcome.status, 3);
+    assert_eq!(rt; out.bytes(), b"".as_slice());
+    assert!(rt; holds(rt.alloc(), &mut target, &PAGES)?);
+    Ok(())
+}
