@@ -1,29 +1,38 @@
 #!/usr/bin/env python3
-"""Times `restore` of a large database beside a plain copy of the same bytes. Run by hand.
+"""Times `restore` of a large database from one whole file and later ones beside plain copies of the same bytes.
+Run by hand.
 
-    bench/restore.py [--mib 64] [--runs 5] [--program PATH]
+    bench/restore.py [--mib 256] [--files 20] [--changed 300] [--runs 5] [--program PATH]
 
-All files lie in a folder of their own below --folder, which goes away at the end. A run of `cp`
-counts with the sync of its output, since a restore syncs too. Where `sqlite3` is installed, its
-`.backup` of a database of about that size is timed beside them.
+SQLite makes the database, of one row a page, and changes some rows for each later file. All files lie in a folder of
+their own below --folder, which goes away at the end. A run of `cp` counts with the sync of its output, since a
+restore syncs too. Where `sqlite3` is installed, its `.backup` of the same database is timed beside them. Where Python
+has no SQLite it does nothing.
 """
 
 import argparse
 import os
 import random
+import resource
 import shutil
-import sqlite3
 import statistics
 import subprocess
 import sys
 import tempfile
 import time
 
+try:
+    import sqlite3
+except ImportError:
+    print("skipped: this Python has no sqlite3")
+    sys.exit(0)
+
 ROOT = os.path.dirname(os.path.dirname(os.path.abspath(__file__)))
 sys.path.insert(0, os.path.join(ROOT, "examples"))
 import make_replica  # noqa: E402
 
 PAGE_BYTES = 4096
+ROW_BYTES = 4000  # a row of a leaf page of its own
 BUILT = os.path.join(ROOT, "crates", "litestream_main", "out", "litestream_main")
 
 
@@ -36,43 +45,79 @@ def built_program():
     return BUILT
 
 
-def random_pages(count, seed):
-    draw = random.Random(seed)
-    first = make_replica.SQLITE_MAGIC + bytes.fromhex("10000202")
-    others = [draw.randbytes(PAGE_BYTES) for _ in range(count - 1)]
-    return [first.ljust(PAGE_BYTES, b"\0"), *others]
-
-
-def make_database(path, mib):
-    """A SQLite database of about that size, for `.backup`."""
+def open_database(path):
     database = sqlite3.connect(path)
+    database.execute(f"PRAGMA page_size = {PAGE_BYTES}")
     database.execute("PRAGMA journal_mode = WAL")
-    database.execute("CREATE TABLE t (b BLOB)")
-    database.executemany("INSERT INTO t VALUES (?)", ((os.urandom(1 << 20),) for _ in range(mib)))
+    return database
+
+
+def close_database(database):
     database.commit()
     database.execute("PRAGMA wal_checkpoint(TRUNCATE)")
     database.close()
 
 
+def make_database(path, mib, draw):
+    """A SQLite database of about that size. Answers the count of its rows."""
+    rows = mib * (1 << 20) // PAGE_BYTES
+    database = open_database(path)
+    database.execute("CREATE TABLE t (a INTEGER PRIMARY KEY, b BLOB)")
+    database.executemany("INSERT INTO t VALUES (?, ?)", ((row, draw.randbytes(ROW_BYTES)) for row in range(rows)))
+    close_database(database)
+    return rows
+
+
+def change_rows(path, rows, changed, draw):
+    database = open_database(path)
+    changes = ((draw.randbytes(ROW_BYTES), row) for row in draw.sample(range(rows), changed))
+    database.executemany("UPDATE t SET b = ? WHERE a = ?", changes)
+    close_database(database)
+
+
+def make_files(replica, database, asked):
+    """Makes the database, and its replica of one whole file and later ones. Answers the length of each file."""
+    draw = random.Random(asked.seed)
+    rows = make_database(database, asked.mib, draw)
+    pages = make_replica.pages_of(database)
+    content = make_replica.whole_database(pages)
+    make_replica.put_file(replica, make_replica.WHOLE_LEVEL, (1, 1), content)
+    lengths = [len(content)]
+    for txid in range(2, asked.files + 2):
+        change_rows(database, rows, min(asked.changed, rows), draw)
+        before, pages = pages, make_replica.pages_of(database)
+        content = make_replica.changed_pages(before, pages, txid, make_replica.MOMENT + txid)
+        make_replica.put_file(replica, 0, (txid, txid), content)
+        lengths.append(len(content))
+    return lengths
+
+
+def processor_seconds():
+    """What all commands so far have taken of the processors."""
+    used = resource.getrusage(resource.RUSAGE_CHILDREN)
+    return used.ru_utime + used.ru_stime
+
+
 def seconds(commands, output):
-    """The time of the commands, one after the other, without the removal of an earlier output."""
+    """The time of the commands, one after the other, without the removal of an earlier output: by the clock, and of
+    the processors, which a loaded machine changes less."""
     if os.path.exists(output):
         os.remove(output)
-    began = time.perf_counter()
+    before, began = processor_seconds(), time.perf_counter()
     for words in commands:
         subprocess.run(words, check=True, stdout=subprocess.DEVNULL)
-    return time.perf_counter() - began
+    return time.perf_counter() - began, processor_seconds() - before
 
 
 def medians(cases, runs):
-    """The median time of each case. They take turns, so that a slow moment meets all of them."""
+    """The median times of each case. They take turns, so that a slow moment meets all of them."""
     times = {name: [] for name in cases}
     for turn in range(runs + 1):
         for name, (commands, output) in cases.items():
             took = seconds(commands, output)
             if turn > 0:  # the first turn warms the caches
                 times[name].append(took)
-    return {name: statistics.median(took) for name, took in times.items()}
+    return {name: [statistics.median(each) for each in zip(*took)] for name, took in times.items()}
 
 
 def peak_kib(words, output):
@@ -99,46 +144,53 @@ def same_bytes(path, other):
     return subprocess.run(["cmp", "-s", path, other]).returncode == 0
 
 
+def copies(database, folder):
+    """The commands whose times a restore is set beside, each with its output."""
+    copied, backup = os.path.join(folder, "copied.db"), os.path.join(folder, "backup.db")
+    cases = {"cp + sync": ([["cp", database, copied], ["sync", copied]], copied)}
+    if shutil.which("sqlite3"):
+        cases["sqlite3 .backup"] = ([["sqlite3", database, f".backup '{backup}'"]], backup)
+    return cases
+
+
+def report(asked, program, bytes_out, lengths, times, peak):
+    mib_out, mib_in = bytes_out / (1 << 20), sum(lengths) / (1 << 20)
+    print(f"database of {mib_out:.1f} MiB in pages of {PAGE_BYTES}; {program}")
+    print(f"replica of {mib_in:.1f} MiB: one whole file and {len(lengths) - 1} later ones")
+    print(f"median of {asked.runs} runs, load {os.getloadavg()[0]:.1f} on {os.cpu_count()} processors")
+    for name, (took, processors) in times.items():
+        ratios = "".join(f"   {took / times[other][0]:5.2f} of {other}" for other in times if other != "restore")
+        print(f"  {name:16} {took:7.3f} s, {processors:6.3f} s of processors {mib_out / took:6.0f} MiB/s{ratios}")
+    peak_mib = peak / 1024
+    print(f"  peak memory of restore: {peak_mib:.1f} MiB, {peak_mib / mib_in:.2f} of the replica's bytes")
+
+
 def measure(asked, folder):
     program = os.path.abspath(asked.program) if asked.program else built_program()
-    count = asked.mib * (1 << 20) // PAGE_BYTES
-    pages = random_pages(count, asked.seed)
-    replica, plain = os.path.join(folder, "R"), os.path.join(folder, "plain.db")
-    with open(plain, "wb") as file:
-        file.write(b"".join(pages))
-    make_replica.put_file(replica, 1, make_replica.whole_database(pages))
-    del pages
-
-    restored, copied = os.path.join(folder, "restored.db"), os.path.join(folder, "copied.db")
-    restore = [program, "restore", "-o", restored, "-txid", "1", replica]
-    cases = {
-        "restore": ([restore], restored),
-        "cp + sync": ([["cp", plain, copied], ["sync", copied]], copied),
-    }
-    if shutil.which("sqlite3"):
-        source, backup = os.path.join(folder, "source.db"), os.path.join(folder, "backup.db")
-        make_database(source, asked.mib)
-        cases["sqlite3 .backup"] = ([["sqlite3", source, f".backup '{backup}'"]], backup)
+    replica, database = os.path.join(folder, "R"), os.path.join(folder, "app.db")
+    lengths = make_files(replica, database, asked)
+    restored = os.path.join(folder, "restored.db")
+    restore = [program, "restore", "-o", restored, replica]
+    cases = {"restore": ([restore], restored), **copies(database, folder)}
     os.sync()
 
     seconds([restore], restored)
-    if not same_bytes(restored, plain):
+    if not same_bytes(restored, database):
         sys.exit("the restored database differs")
     times = medians(cases, asked.runs)
-    print(f"{asked.mib} MiB in pages of {PAGE_BYTES}, median of {asked.runs} runs, {program}")
-    for name, took in times.items():
-        rate, ratio = asked.mib / took, took / times["cp + sync"]
-        print(f"  {name:16} {took:8.3f} s {rate:8.0f} MiB/s   {ratio:5.2f} of cp + sync")
-    print(f"  peak memory of restore: {peak_kib(restore, restored) / 1024:.1f} MiB")
-    if not same_bytes(restored, plain):
+    peak = peak_kib(restore, restored)
+    if not same_bytes(restored, database):
         sys.exit("the restored database differs")
+    report(asked, program, os.path.getsize(database), lengths, times, peak)
 
 
 def main():
     words = argparse.ArgumentParser(description=__doc__.split("\n")[0])
-    words.add_argument("--mib", type=int, default=64, help="size of the database")
+    words.add_argument("--mib", type=int, default=256, help="size of the database")
+    words.add_argument("--files", type=int, default=20, help="how many files come after the whole one")
+    words.add_argument("--changed", type=int, default=300, help="how many rows each of them changes")
     words.add_argument("--runs", type=int, default=5)
-    words.add_argument("--seed", type=int, default=1, help="of the pages' bytes")
+    words.add_argument("--seed", type=int, default=1, help="of the rows' bytes")
     words.add_argument("--program", help="in place of the one that ./litestream builds")
     words.add_argument("--folder", help="where the files are made, if not in the temporary folder")
     asked = words.parse_args()

@@ -1,11 +1,13 @@
 #!/usr/bin/env python3
-"""Makes a replica that holds one whole database, as an LTX file of level 9.
+"""Adds a database to a replica as its next transaction, as an LTX file.
 
     make_replica.py REPLICA                  a database of two pages of 512 bytes
     make_replica.py --from app.db REPLICA    the pages of a SQLite database file at rest
 
-`restore` and `ltx` can be tried on it. The file is written from the tables of the format alone, by
-code that shares nothing with the program.
+The first transaction is written whole, as a file of level 9. Each later one is a file of level 0, which
+holds the pages that changed since the one before. With `--whole` a file of level 9 is written in any case.
+`restore` can be tried on the replica. The files are written from the tables of the format alone, by code
+that shares nothing with the program.
 """
 
 import argparse
@@ -16,6 +18,9 @@ import sys
 MAGIC = b"LTX1"
 NO_ROLLING_CHECKSUMS = 2
 TOP_BIT = 1 << 63
+HEADER_BYTES = 100
+END_BYTES = 22  # 6 zero bytes, post-apply checksum 0, the file's own sum
+WHOLE_LEVEL = 9
 SQLITE_MAGIC = b"SQLite format 3\0"
 MOMENT = 1700000000000  # 2023-11-14T22:13:20.000Z
 
@@ -81,17 +86,15 @@ def rest_sum(pages):
     return total | TOP_BIT
 
 
-def whole_database(pages, txid=1, moment=MOMENT, place_sum=TOP_BIT):
-    """The bytes of an LTX file with all pages of a database, from TXID 1 to the given one."""
-    size = len(pages[0])
+def transaction_file(numbered, size, commit, txids, moment, place_sum):
+    """The bytes of an LTX file: pages by rising number, the database's size in pages, and its transactions."""
     header = struct.pack(
         ">4sIIIQQQQQQIIQQ12x",
         MAGIC,
         NO_ROLLING_CHECKSUMS,
         size,
-        len(pages),
-        1,
-        txid,
+        commit,
+        *txids,
         moment,
         0,  # pre-apply checksum
         0,  # WAL offset
@@ -101,9 +104,26 @@ def whole_database(pages, txid=1, moment=MOMENT, place_sum=TOP_BIT):
         0,  # node id
         place_sum,
     )
-    blocks = [struct.pack(">IH", number, 0) + page for number, page in enumerate(pages, 1)]
+    blocks = [struct.pack(">IH", number, 0) + page for number, page in numbered]
     body = b"".join([header, *blocks, bytes(6), bytes(8)])
     return body + struct.pack(">Q", crc64(body) | TOP_BIT)
+
+
+def whole_database(pages, txid=1, moment=MOMENT, place_sum=TOP_BIT):
+    """A file with all pages of a database, from transaction 1 to the given one."""
+    numbered = enumerate(pages, 1)
+    return transaction_file(numbered, len(pages[0]), len(pages), (1, txid), moment, place_sum)
+
+
+def changed_pages(before, pages, txid, moment, place_sum=TOP_BIT):
+    """A file of one transaction, with the pages that aren't as they were before."""
+    numbered = [
+        (number, page)
+        for number, page in enumerate(pages, 1)
+        if number > len(before) or before[number - 1] != page
+    ]
+    size = len(pages[0])
+    return transaction_file(numbered, size, len(pages), (txid, txid), moment, place_sum)
 
 
 def tiny_pages():
@@ -127,28 +147,75 @@ def pages_of(path):
     return [content[at : at + size] for at in range(0, len(content), size)]
 
 
-def put_file(replica, txid, content):
-    folder = os.path.join(replica, "ltx", "9")
-    os.makedirs(folder, exist_ok=True)
-    path = os.path.join(folder, f"{1:016x}-{txid:016x}.ltx")
-    with open(path, "wb") as file:
+def path_of(replica, level, first, last):
+    return os.path.join(replica, "ltx", str(level), f"{first:016x}-{last:016x}.ltx")
+
+
+def put_file(replica, level, txids, content):
+    path = path_of(replica, level, *txids)
+    os.makedirs(os.path.dirname(path), exist_ok=True)
+    with open(path, "xb") as file:
         file.write(content)
     return path
+
+
+def pages_after(pages, path):
+    """The pages that a file leaves of a database that had these, and the file's moment."""
+    with open(path, "rb") as file:
+        content = file.read()
+    size, commit = struct.unpack_from(">II", content, 8)
+    (moment,) = struct.unpack_from(">Q", content, 32)
+    after = [*pages[:commit], *[None] * (commit - len(pages))]
+    for at in range(HEADER_BYTES, len(content) - END_BYTES, 6 + size):
+        (number,) = struct.unpack_from(">I", content, at)
+        after[number - 1] = content[at + 6 : at + 6 + size]
+    return after, moment
+
+
+def last_of(replica):
+    """The replica's last transaction, its pages and its moment. Knows the files that this script writes."""
+    txid, pages, moment = 0, [], None
+    while True:
+        whole, change = path_of(replica, WHOLE_LEVEL, 1, txid + 1), path_of(replica, 0, txid + 1, txid + 1)
+        if os.path.exists(whole):
+            pages, moment = pages_after([], whole)
+        elif os.path.exists(change):
+            pages, moment = pages_after(pages, change)
+        else:
+            return txid, pages, moment
+        txid += 1
+
+
+def add_transaction(replica, pages, moment=None, whole=False, place_sum=TOP_BIT):
+    """Writes the next transaction, a second after the one before where no moment is given."""
+    before_txid, before, before_moment = last_of(replica)
+    txid = before_txid + 1
+    if moment is None:
+        moment = MOMENT if before_moment is None else before_moment + 1000
+    if before_moment is not None and moment < before_moment:
+        sys.exit(f"the moment {moment} is before that of the last transaction, {before_moment}")
+    if txid == 1 or whole or len(before[0]) != len(pages[0]):
+        content = whole_database(pages, txid, moment, place_sum)
+        path = put_file(replica, WHOLE_LEVEL, (1, txid), content)
+    else:
+        content = changed_pages(before, pages, txid, moment, place_sum)
+        path = put_file(replica, 0, (txid, txid), content)
+    return path, len(content)
 
 
 def main():
     words = argparse.ArgumentParser(description=__doc__.split("\n")[0])
     words.add_argument("replica", help="the replica's folder, made where it is missing")
     words.add_argument("--from", dest="database", help="a SQLite database file")
-    words.add_argument("--txid", type=lambda word: int(word, 16), default=1, help="in hexadecimal")
-    words.add_argument("--moment", type=int, default=MOMENT, help="in milliseconds since 1970")
+    words.add_argument("--moment", type=int, help="in milliseconds since 1970")
+    words.add_argument("--whole", action="store_true", help="write all pages")
     asked = words.parse_args()
     if crc64(b"123456789") != 0xB90956C775A41001:
         sys.exit("the CRC-64 is wrong")
     pages = pages_of(asked.database) if asked.database else tiny_pages()
     place_sum = rest_sum(pages) if asked.database else TOP_BIT
-    content = whole_database(pages, asked.txid, asked.moment, place_sum)
-    print(f"{put_file(asked.replica, asked.txid, content)}: {len(content)} bytes")
+    path, length = add_transaction(asked.replica, pages, asked.moment, asked.whole, place_sum)
+    print(f"{path}: {length} bytes")
 
 
 if __name__ == "__main__":

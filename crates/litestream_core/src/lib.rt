@@ -2,11 +2,13 @@
 //! and the output that it is handed, and answers with one cause.
 //!
 //! To `main` it promises: what a restore writes is what the database had at the transaction that is asked for,
-//! where the replica tells the truth; under the output's name stands that or nothing, whatever a crash takes; and
-//! each answer has its cause. The contract of `litestream` says so, answer by answer; the program's `main` makes
-//! this one call on the real objects.
+//! where the replica's files tell the truth; a crash leaves that under the output's name or nothing, where none
+//! could have left anything there before; and each answer has its cause. The contract of `litestream` says so,
+//! answer by answer; the program's `main` makes this one call on the real objects. `restore` is the one command
+//! that is built.
 //!
-//! Stands on `ls_base`, `crash_disk`, `ls_words`, `replica_store`, `restore_plan` and `restore_apply`.
+//! Stands on `ls_base`, `crash_disk`, `ls_words`, `replica_store`, `restore_plan` and `restore_apply`, and on
+//! `itoa` and `arrayvec` for the line that is printed.
 #![tactic(auto)]
 
 mod asked;

@@ -1,9 +1,13 @@
-//! The files of a replica on its disk: their names, lists of them, and how they are put, read and dropped.
+//! The files of a replica on its disk: their names, lists of them, their headers, and how they are put, read and
+//! dropped.
 //!
 //! To the layer above it promises: a name is read exactly where a text is the one that it writes; a list has each
-//! name of the replica once and in order; a file that is put stands under its name whole or not at all, whatever
-//! a crash takes; and a fault comes only where the disk's own count of faults rose. Only lists and the reading of a
-//! whole file take memory.
+//! name of the replica once and in order; a header is one of its name's transactions; a file that is put stands
+//! under its name whole or as it was, whatever a crash takes; and a fault comes only where the disk's own count of
+//! faults rose or stands at its last value. Only lists and the reading of a whole file take memory.
+//!
+//! The crates above share what `specs/` says of chains of files, of what they make, and of files that tell the
+//! truth about a database.
 //!
 //! Stands on `ls_base`, `crash_disk` and `ltx_format`.
 #![tactic(auto)]

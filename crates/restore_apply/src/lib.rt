@@ -1,7 +1,9 @@
 //! Restoring a database from the files of a chain.
 //!
-//! To the layer above it promises: the output has its name whole or not at all, whatever a crash takes; what is
-//! written is what the plan's files make, applied one after another to nothing; and each fault tells its cause.
+//! To the layer above it promises: the output has its name whole or not at all, also after a crash, where none
+//! could have left anything there before; what is written is what the plan's files make, applied one after
+//! another to nothing; and each fault tells its cause. All files are read, and all memory is taken, before the
+//! first byte is written. It holds the pages of all files of the plan at once.
 //!
 //! Stands on `ls_base`, `crash_disk`, `ltx_format` and `replica_store`.
 #![tactic(auto)]
