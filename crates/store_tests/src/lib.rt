@@ -14,6 +14,8 @@ mod content;
 #[cfg(test)]
 mod faults;
 #[cfg(test)]
+mod headers;
+#[cfg(test)]
 mod lists;
 #[cfg(test)]
 mod putting;
