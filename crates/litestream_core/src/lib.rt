@@ -7,8 +7,8 @@
 //! answer by answer; the program's `main` makes this one call on the real objects. `restore` is the one command
 //! that is built.
 //!
-//! Stands on `ls_base`, `crash_disk`, `ls_words`, `replica_store`, `restore_plan` and `restore_apply`, and on
-//! `itoa` and `arrayvec` for the line that is printed.
+//! Stands on `ls_base`, `crash_disk`, `ls_words`, `replica_store`, `restore_plan` and `restore_apply`, on
+//! `ltx_format` for its proofs alone, and on `itoa` and `arrayvec` for the line that is printed.
 #![tactic(auto)]
 
 mod asked;
