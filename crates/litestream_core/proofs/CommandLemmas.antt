@@ -46,16 +46,16 @@ module _ (r : Request) (scene : Scene) (t : ℕ) (plan : List FileName) (lacks :
     text,
     rose_sooner scene.target_faults target_mid scene.target_faults_after target_later rose,
     inr (λ events told.
-      let made = may events told in
-      record {
-        absent = lacks;
-        t = t;
-        plan = plan;
-        is = is events told;
-        state = made.state;
-        makes = made.makes;
-        output = made.output;
-      }),
+        let made = may events told in
+        record {
+          absent = lacks;
+          t = t;
+          plan = plan;
+          is = is events told;
+          state = made.state;
+          makes = made.makes;
+          output = made.output;
+        }),
   )
   explains_fault store_mid target_mid store_later target_later text fault.Memory same = record { target = same; text = text }
 

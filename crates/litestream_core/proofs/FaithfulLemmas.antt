@@ -62,16 +62,18 @@ module _ (events : List Event) (history : History) (log : SyncLog) (faithful : I
       let path = path_of name in
       let there = ((listed.each path).0 (path_in names name has)).1 in
       let own = faithful.each name.level name.min name.max (bytes_under events path) (valid_in names name listed.valid has) (named_there (file_at events path) there.there) in
-      let same = same_change (bytes_under events path) own.header own.change own.file.file in
-      (file_made own.header own.change, record {
-        is = record { file = subst (IsLtxFile (bytes_under events path) own.header) same own.file.file; from_min = own.file.from_min; to_max = own.file.to_max };
-        only = record {
-          only = λ header change is. let one = same_value (bytes_under events path) own.header header own.change change (bytes path) own.file.file is in (one.0, sym same ∙ one.1);
-          faultless = (files (bytes_under events path) (bytes path)).1 (own.header, own.change, own.file.file);
-        };
-        own = own;
-        same = same;
-      })
+      let same = same_change (bytes_under events path) own.header own.change own.file.file in (
+        file_made own.header own.change,
+        record {
+          is = record { file = subst (IsLtxFile (bytes_under events path) own.header) same own.file.file; from_min = own.file.from_min; to_max = own.file.to_max };
+          only = record {
+            only = λ header change is. let one = same_value (bytes_under events path) own.header header own.change change (bytes path) own.file.file is in (one.0, sym same ∙ one.1);
+            faultless = (files (bytes_under events path) (bytes path)).1 (own.header, own.change, own.file.file);
+          };
+          own = own;
+          same = same;
+        },
+      )
 
   -- what such files make of a recorded state
   record Made (chain : List FileName) (size : ℕ) (before : State) : Type 0 where

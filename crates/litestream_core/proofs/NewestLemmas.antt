@@ -20,9 +20,9 @@ pub one_more : (names : List FileName) (at newest after : ℕ) (item : FileName)
 one_more names at newest after item below is so_far kept new k d within =
     ⊎_elim (λ before. let low = so_far k d before in omega (arith, low, kept))
     (λ from.
-        let here : k ≡ at = omega (arith, from, within) in
-        let same : get_or names k d ≡ item = ap (λ i. get_or names i d) here ∙ get_or_default names at d item below ∙ sym is in
-        subst (λ (name : FileName). name.max ≤ after) (sym same) new) (cases_lt k at)
+    let here : k ≡ at = omega (arith, from, within) in
+    let same : get_or names k d ≡ item = ap (λ i. get_or names i d) here ∙ get_or_default names at d item below ∙ sym is in
+    subst (λ (name : FileName). name.max ≤ after) (sym same) new) (cases_lt k at)
 
 pub is_newest : (names : List FileName) (at newest : ℕ) → length names ≤ at → (name : FileName) × Contains names name × (name.max ≡ newest) → EndBy names at newest → IsNewest names newest
 is_newest names at newest all (name, there, ends) by = record {

@@ -72,7 +72,11 @@ fn find_output<T: Disk>(alloc: Global, request: &Request<'_>, target: &mut T) ->
 }
 
 /// The names of the replica, of which there are some.
-fn find_names<S: Disk>(alloc: Global, request: &Request<'_>, store: &mut S) -> Result<FileNames, Why>
+fn find_names<S: Disk>(
+    alloc: Global,
+    request: &Request<'_>,
+    store: &mut S,
+) -> Result<FileNames, Why>
     ensures some { IfOk result (λ names. names ≢ []) }
     ensures in_order { IfOk result (λ names. IsListOrdered names) }
     ensures names { IfOk result (λ names. IfTold (S.told store.old) (λ events. AreNames events names)) }
