@@ -1,6 +1,6 @@
 -- Where the condition of an answer holds and no count rose, no other answer is left but want of memory.
 use Rattle.std.proofs.Common.{◌≡◌, ℕ, List, [], ◌∷◌, length, Bool, true, false, Option, Some, None, refl, sym, ap, subst, ◌∙◌, inl, inr, arith}
-use Rattle.std.specs.Prelude.{◌⊎◌, option_map, IsSome, is_some, ℤ}
+use Rattle.std.specs.Prelude.{◌⊎◌, option_map, IsSome, is_some, ℤ, pos}
 use Rattle.std.specs.List.{Contains}
 use Rattle.crash_disk.specs.declared.event.Event.{Event}
 use Rattle.crash_disk.specs.Files.{file_at, size_of}
@@ -8,6 +8,8 @@ use Rattle.ls_words.specs.declared.command.Target.{Target}
 use Rattle.ls_words.specs.declared.command.Target.TheVariants.{Newest, At, Moment}
 use Rattle.replica_store.specs.declared.error.Damage.{Damage}
 use Rattle.replica_store.specs.declared.file_name.FileName.{FileName}
+use Rattle.replica_store.specs.declared.dated_names.Dated.{Dated}
+use Rattle.replica_store.specs.Dating.{AreDated}
 use Rattle.replica_store.specs.Listing.{AreListed, path_of, paths_of}
 use Rattle.crash_disk.specs.Fault.{Rose}
 use Rattle.ls_base.specs.State.{State}
@@ -15,11 +17,12 @@ use Rattle.restore_apply.specs.Restoring.{Makes, IsFirstDamaged, IsFirstMissing}
 use Rattle.restore_apply.proofs.DamageLemmas.{undamaged, unspoilt, complete}
 use Rattle.litestream_core.specs.declared.outcome.Why.{Why}
 use Rattle.litestream_core.specs.declared.outcome.Why.TheVariants.{Done, SkippedOutput, SkippedReplica, NotBuilt, Usage, NoReplica, MissingRange, NoMoment, Damaged, PageMissing, OutputExists, StoreFault, TargetFault, SinkFault, Memory}
-use Rattle.litestream_core.specs.Asked.{AreNames, IsAsked, IsOfMoment, IsPlan, IsMissing, IsBefore, IsBadHeader}
+use Rattle.litestream_core.specs.Asked.{AreNames, IsAsked, IsOfMoment, IsPlan, IsMissing, IsBefore, IsBadHeader, LacksMoment}
 use Rattle.litestream_core.specs.Command.{Scene, Explains, NotRisen}
-use Rattle.litestream_core.specs.Exact.{IsFree, IsTaken, HeadersAreGood, IsInTime, HasNoneOf, HasNoChain, MayBePlanned, PlanIsDamaged, PlanLacksPage, PlanMakesState, ComesExactly}
+use Rattle.litestream_core.specs.Exact.{IsFree, IsTaken, HeadersAreGood, HasABadHeader, IsInTime, HasNoneOf, HasNoChain, MayBePlanned, PlanIsDamaged, PlanLacksPage, PlanMakesState, ComesExactly}
 use Rattle.litestream_core.specs.Request.{Request}
 use Rattle.litestream_core.proofs.FaithfulLemmas.{plan_makes}
+use Rattle.litestream_core.proofs.HeaderLemmas.{all_headers_good}
 
 absent_size : (o : Option (List ℕ)) (n : ℕ) → o ≡ None → option_map length o ≡ Some n → ⊥
 absent_size None n none some = absurd cc
@@ -56,7 +59,7 @@ data Reached (r : Request) (scene : Scene) (store : List Event) (why : Why) : Ty
   NamesNone : AreListed store [] → ((why ≡ SkippedReplica) × (r.if_replica_exists ≡ true)) ⊎ ((why ≡ NoReplica) × (r.if_replica_exists ≡ false)) → Reached r scene store why
   TooEarly : why ≡ NoMoment → IsBefore store r → Reached r scene store why
   LacksChain : (after : ℕ) → why ≡ MissingRange after → IsMissing store r after → Reached r scene store why
-  ReadsBadHeader : (name : FileName) (damage : Damage) → IsBadHeader store r name damage → Reached r scene store why
+  ReadsBadHeader : (name : FileName) (damage : Damage) → why ≡ Damaged name damage → IsBadHeader store r name damage → Reached r scene store why
   HasPlan : (t : ℕ) (plan : List FileName) → IsPlan store r t plan → Ended scene store plan why → Reached r scene store why
 
 module _ (r : Request) (scene : Scene) (store : List Event) (told : scene.store ≡ Some store) (is : IsFree r scene) where
@@ -69,7 +72,7 @@ module _ (r : Request) (scene : Scene) (store : List Event) (told : scene.store 
   reached NoMoment (_, _, before) = TooEarly refl (before store told)
   reached (MissingRange after) (_, _, missing) = LacksChain after refl (missing store told)
   reached (Damaged name damage) (_, _, bad) = elim (bad store told) [
-    | inl header ↦ ReadsBadHeader name damage header
+    | inl header ↦ ReadsBadHeader name damage refl header
     | inr plan ↦ HasPlan plan.t plan.plan plan.is (Spoilt name damage refl plan.first)
   ]
   reached (PageMissing name number) (_, _, missing) = let it = missing store told in HasPlan it.t it.plan it.is (Lacked name number refl it.first)
@@ -87,7 +90,7 @@ module _ (r : Request) (scene : Scene) (store : List Event) where
   no_replica why none flag (NamesNone _ (inr (e, unset))) = inl e
   no_replica why none flag (TooEarly _ before) = absurd (none_listed store before.names none before.are)
   no_replica why none flag (LacksChain after _ missing) = absurd (none_listed store missing.names none missing.are)
-  no_replica why none flag (ReadsBadHeader name damage bad) = absurd (none_listed store bad.names none bad.are)
+  no_replica why none flag (ReadsBadHeader name damage _ bad) = absurd (none_listed store bad.names none bad.are)
   no_replica why none flag (HasPlan t plan planned _) = absurd (none_listed store planned.names none planned.are)
 
   skipped_replica : (why : Why) → AreListed store [] → r.if_replica_exists ≡ true → Reached r scene store why → (why ≡ SkippedReplica) ⊎ (why ≡ Memory)
@@ -96,7 +99,7 @@ module _ (r : Request) (scene : Scene) (store : List Event) where
   skipped_replica why none flag (NamesNone _ (inr (e, unset))) = absurd (both_ways r.if_replica_exists flag unset)
   skipped_replica why none flag (TooEarly _ before) = absurd (none_listed store before.names none before.are)
   skipped_replica why none flag (LacksChain after _ missing) = absurd (none_listed store missing.names none missing.are)
-  skipped_replica why none flag (ReadsBadHeader name damage bad) = absurd (none_listed store bad.names none bad.are)
+  skipped_replica why none flag (ReadsBadHeader name damage _ bad) = absurd (none_listed store bad.names none bad.are)
   skipped_replica why none flag (HasPlan t plan planned _) = absurd (none_listed store planned.names none planned.are)
 
   of_moment : (moment : ℤ) (names : List FileName) (t : ℕ) → r.target ≡ Moment moment → IsAsked store names r.target t → IsOfMoment store names moment t
@@ -107,15 +110,36 @@ module _ (r : Request) (scene : Scene) (store : List Event) where
   no_moment why moment some is good none (NamesNone listed _) = absurd (some listed)
   no_moment why moment some is good none (TooEarly e _) = inl e
   no_moment why moment some is good none (LacksChain after _ missing) = absurd (none missing.names missing.are missing.t (of_moment moment missing.names missing.t is missing.asked))
-  no_moment why moment some is good none (ReadsBadHeader name damage bad) = absurd (good bad.names bad.are name damage bad.bad)
+  no_moment why moment some is good none (ReadsBadHeader name damage _ bad) = absurd (good bad.names bad.are name damage bad.bad)
   no_moment why moment some is good none (HasPlan t plan planned _) = absurd (none planned.names planned.are t (of_moment moment planned.names t is planned.asked))
+
+  too_early : (ms : ℕ) (names : List FileName) → r.target ≡ Moment (pos ms) → LacksMoment store names r.target → (dated : List Dated) × AreDated store names dated
+  too_early ms names is lacks = let early = subst (λ (target : Target). LacksMoment store names target) is lacks in (early.0, early.1)
+
+  bad_header : (why : Why) (ms : ℕ) → (AreListed store [] → ⊥) → r.target ≡ Moment (pos ms) → HasABadHeader store → Reached r scene store why
+      → ((name : FileName) × (damage : Damage) × (why ≡ Damaged name damage)) ⊎ (why ≡ Memory)
+  bad_header why ms some is bad (OutOfMemory e) = inr e
+  bad_header why ms some is bad (NamesNone listed _) = absurd (some listed)
+  bad_header why ms some is bad (TooEarly _ before) =
+      let first = bad before.names before.are in
+      let early = too_early ms before.names is before.lacks in
+      absurd (all_headers_good store before.names early.0 first.0 first.1 early.1 first.2)
+  bad_header why ms some is bad (LacksChain after _ missing) =
+      let first = bad missing.names missing.are in
+      let own = of_moment (pos ms) missing.names missing.t is missing.asked in
+      absurd (all_headers_good store missing.names own.dated first.0 first.1 own.moments first.2)
+  bad_header why ms some is bad (ReadsBadHeader name damage e _) = inl (name, damage, e)
+  bad_header why ms some is bad (HasPlan t plan planned _) =
+      let first = bad planned.names planned.are in
+      let own = of_moment (pos ms) planned.names t is planned.asked in
+      absurd (all_headers_good store planned.names own.dated first.0 first.1 own.moments first.2)
 
   missing_range : (why : Why) → (AreListed store [] → ⊥) → HeadersAreGood store r → IsInTime store r → HasNoChain store r → Reached r scene store why → ((after : ℕ) × (why ≡ MissingRange after)) ⊎ (why ≡ Memory)
   missing_range why some good timely none (OutOfMemory e) = inr e
   missing_range why some good timely none (NamesNone listed _) = absurd (some listed)
   missing_range why some good timely none (TooEarly _ before) = absurd (timely before.names before.are before.lacks)
   missing_range why some good timely none (LacksChain after e _) = inl (after, e)
-  missing_range why some good timely none (ReadsBadHeader name damage bad) = absurd (good bad.names bad.are name damage bad.bad)
+  missing_range why some good timely none (ReadsBadHeader name damage _ bad) = absurd (good bad.names bad.are name damage bad.bad)
   missing_range why some good timely none (HasPlan t plan planned _) = absurd (none planned.names planned.are t planned.asked planned.retained)
 
   -- with a plan, only what became of it is left
@@ -124,7 +148,7 @@ module _ (r : Request) (scene : Scene) (store : List Event) where
   planned why may (NamesNone listed _) = absurd (may.some listed)
   planned why may (TooEarly _ before) = absurd (may.in_time before.names before.are before.lacks)
   planned why may (LacksChain after _ missing) = absurd (may.chain after missing)
-  planned why may (ReadsBadHeader name damage bad) = absurd (may.good bad.names bad.are name damage bad.bad)
+  planned why may (ReadsBadHeader name damage _ bad) = absurd (may.good bad.names bad.are name damage bad.bad)
   planned why may (HasPlan t plan is ended) = inr (t, plan, is, ended)
 
   damaged : (why : Why) → PlanIsDamaged store r → (why ≡ Memory) ⊎ ((t : ℕ) × (plan : List FileName) × IsPlan store r t plan × Ended scene store plan why)
@@ -196,5 +220,6 @@ comes_exactly r scene why explains = record {
   done = λ store told free may good calm. done r scene store why good calm (planned r scene store why may (reached r scene store told free why explains));
   faithful = λ store history log told faithful bytes free may calm.
       done r scene store why (plan_makes store r history log faithful bytes) calm (planned r scene store why may (reached r scene store told free why explains));
+  bad_header = λ store ms told free some is bad. bad_header r scene store why ms some is bad (reached r scene store told free why explains);
   missing_range = λ store told free some good timely none. missing_range r scene store why some good timely none (reached r scene store told free why explains);
 }

@@ -3,5 +3,6 @@ pub mod NewestLemmas
 pub mod PlanLemmas
 pub mod CommandLemmas
 pub mod FaithfulLemmas
+pub mod HeaderLemmas
 pub mod ExactLemmas
 pub mod Theorems

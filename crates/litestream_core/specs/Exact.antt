@@ -1,6 +1,6 @@
 -- When each answer of a restore comes: where its condition holds, no earlier step refuses and no count of faults rose,
 -- it is the answer, unless memory runs out.
-use Rattle.std.specs.Prelude.{◌≡◌, ℕ, ◌^◌, ◌<◌, ℤ, List, [], true, false, None, Some, slice_index, ◌⊎◌}
+use Rattle.std.specs.Prelude.{◌≡◌, ℕ, ◌^◌, ◌<◌, ℤ, pos, List, [], true, false, None, Some, slice_index, ◌⊎◌}
 use Rattle.crash_disk.specs.declared.event.Event.{Event}
 use Rattle.crash_disk.specs.Files.{file_at, size_of, files_after}
 use Rattle.ls_base.specs.History.{History}
@@ -9,6 +9,7 @@ use Rattle.ls_words.specs.declared.command.Target.TheVariants.{Moment}
 use Rattle.replica_store.specs.declared.error.Damage.{Damage}
 use Rattle.replica_store.specs.declared.file_name.FileName.{FileName}
 use Rattle.replica_store.specs.Chain.{IsRetained}
+use Rattle.replica_store.specs.Dating.{IsFirstBadHeader}
 use Rattle.replica_store.specs.Faithful.{IsFaithful}
 use Rattle.replica_store.specs.Listing.{AreListed, bytes_under}
 use Rattle.ls_base.specs.State.{State}
@@ -37,6 +38,10 @@ pub record IsTaken (r : Request) (scene : Scene) (size : ℕ) : Type 0 where
 -- no header that is looked at for its moment is damaged
 abbrev pub HeadersAreGood : List Event → Request → Type 0
 HeadersAreGood store r = (names : List FileName) → AreNames store names → (name : FileName) (damage : Damage) → HasBadHeader store names r.target name damage → ⊥
+
+-- a header that is looked at for its moment is damaged
+abbrev pub HasABadHeader : List Event → Type 0
+HasABadHeader store = (names : List FileName) → AreNames store names → (name : FileName) × (damage : Damage) × IsFirstBadHeader store names name damage
 
 -- a transaction of the asked moment, if a moment is asked for, is retained
 abbrev pub IsInTime : List Event → Request → Type 0
@@ -80,6 +85,8 @@ pub record ComesExactly (r : Request) (scene : Scene) (why : Why) : Type 0 where
   pub skipped_replica : (store : List Event) → scene.store ≡ Some store → IsFree r scene → AreListed store [] → r.if_replica_exists ≡ true → (why ≡ SkippedReplica) ⊎ (why ≡ Memory)
   pub no_moment : (store : List Event) (moment : ℤ) → scene.store ≡ Some store → IsFree r scene → (AreListed store [] → ⊥) → r.target ≡ Moment moment → HeadersAreGood store r → HasNoneOf store moment
       → (why ≡ NoMoment) ⊎ (why ≡ Memory)
+  pub bad_header : (store : List Event) (ms : ℕ) → scene.store ≡ Some store → IsFree r scene → (AreListed store [] → ⊥) → r.target ≡ Moment (pos ms) → HasABadHeader store
+      → ((name : FileName) × (damage : Damage) × (why ≡ Damaged name damage)) ⊎ (why ≡ Memory)
   pub missing_range : (store : List Event) → scene.store ≡ Some store → IsFree r scene → (AreListed store [] → ⊥) → HeadersAreGood store r → IsInTime store r → HasNoChain store r
       → ((after : ℕ) × (why ≡ MissingRange after)) ⊎ (why ≡ Memory)
   pub damaged : (store : List Event) → scene.store ≡ Some store → IsFree r scene → MayBePlanned store r → PlanIsDamaged store r
