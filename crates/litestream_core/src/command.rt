@@ -80,12 +80,13 @@ fn cause_of(ended: Result<(), Why>) -> Why
 
 /// Carries out the command that the words are, and answers how it ended.
 ///
-/// `restore` writes the database as of a transaction from the replica's files: as of the one that the words name, or
-/// the newest, or the last that was retained at or before a moment. It takes the chain of files
-/// that reaches furthest at each step, writes what they make under the output's name with `.litestream-tmp` behind it, brings that
-/// file to the disk, gives it the output's name and brings the names to the disk, so that under the output's
-/// name stands the whole database or nothing; and it prints `restored <T in 16 digits> pages <N>` to `out`. The
-/// other commands aren't built yet. Nothing is written to `err` yet.
+/// `restore` writes the database as of a transaction from the replica's files: as of the one that the words
+/// name, or the newest, or the last that was retained at or before a moment. It takes the chain of files that
+/// reaches furthest at each step, and writes what they make under the output's name with `.litestream-tmp`
+/// behind it. It brings that file to the disk, gives it the output's name and brings the names to the disk, so
+/// that under the output's name stands the whole database or nothing. Then it prints
+/// `restored <T in 16 digits> pages <N>` to `out`. The other commands aren't built yet. Nothing is written to
+/// `err` yet.
 pub fn litestream<S: Disk, T: Disk, O: Out>(
     alloc: Global,
     words: &Words,
