@@ -2,7 +2,7 @@
 
 use crash_disk::MemDisk;
 use ltx_format::LtxFault;
-use replica_store::{Damage, StoreError, dated, header_of, read_name};
+use replica_store::{Damage, StoreError, dated, header_of, list, read_name};
 use std::test::Fail;
 
 const FIRST: &str = "ltx/9/0000000000000001-0000000000000001.ltx";
@@ -58,13 +58,14 @@ fn a_header_is_read_under_its_name_alone(rt: HostRuntime) -> Result<(), Fail> {
 fn names_get_the_moments_of_their_headers(rt: HostRuntime) -> Result<(), Fail> {
     let mut store = MemDisk::new(rt.alloc());
     store.put_file(FIRST, HEADER)?;
+    let names = list(rt.alloc(), &mut store)?;
+    let moments = dated(rt.alloc(), &mut store, names.as_slice())?;
+    let moment = moments.as_slice().first().map(|named| named.moment);
+    assert_eq!(rt; moment, Some(MOMENT));
     store.put_file(SECOND, HEADER)?;
-    let first = read_name(FIRST).ok_or("no name")?;
+    let names = list(rt.alloc(), &mut store)?;
+    let damaged = dated(rt.alloc(), &mut store, names.as_slice()).map(|_| ());
     let second = read_name(SECOND).ok_or("no name")?;
-    let names = dated(rt.alloc(), &mut store, &[first])?;
-    let moments = names.as_slice().first().map(|named| named.moment);
-    assert_eq!(rt; moments, Some(MOMENT));
-    let damaged = dated(rt.alloc(), &mut store, &[first, second]).map(|_| ());
     assert_eq!(rt;
         damaged,
         Err(StoreError::Damaged(second, Damage::NameDiffers))
