@@ -52,11 +52,15 @@ LacksMoment events names Newest = ⊥
 LacksMoment events names (At asked) = ⊥
 LacksMoment events names (Moment moment) = IsTooEarly events names moment
 
--- a header was looked at for its moment, and it is damaged
+-- A header was looked at for its moment, and it is damaged. None is looked at where the moment is before 1970.
+abbrev pub HasBadHeaderAt : List Event → List FileName → ℤ → FileName → Damage → Type 0
+HasBadHeaderAt events names (pos ms) name damage = IsFirstBadHeader events names name damage
+HasBadHeaderAt events names (negsuc n) name damage = ⊥
+
 abbrev pub HasBadHeader : List Event → List FileName → Target → FileName → Damage → Type 0
 HasBadHeader events names Newest name damage = ⊥
 HasBadHeader events names (At asked) name damage = ⊥
-HasBadHeader events names (Moment moment) name damage = IsFirstBadHeader events names name damage
+HasBadHeader events names (Moment moment) name damage = HasBadHeaderAt events names moment name damage
 
 -- the plan of a restore: the chosen chain to the transaction that is asked for
 pub record IsPlan (events : List Event) (r : Request) (t : ℕ) (plan : List FileName) : Type 0 where

@@ -8,7 +8,6 @@ use Rattle.crash_disk.specs.Files.{file_at, size_of}
 use Rattle.replica_store.specs.declared.error.StoreError.{StoreError}
 use Rattle.replica_store.specs.declared.error.StoreError.TheVariants as error
 use Rattle.replica_store.specs.declared.file_name.FileName.{FileName}
-use Rattle.replica_store.specs.Dating.{IsFirstBadHeader}
 use Rattle.replica_store.specs.Listing.{AreListed}
 use Rattle.restore_apply.specs.declared.restored.RestoreFault.{RestoreFault}
 use Rattle.restore_apply.specs.declared.restored.RestoreFault.TheVariants as fault
@@ -16,7 +15,7 @@ use Rattle.restore_plan.specs.declared.chain.PlanFault.{PlanFault}
 use Rattle.restore_plan.specs.declared.chain.PlanFault.TheVariants as plan
 use Rattle.litestream_core.specs.declared.outcome.Why.{Why}
 use Rattle.litestream_core.specs.declared.outcome.Why.TheVariants.{Done, SkippedOutput, SkippedReplica, NotBuilt, Usage, NoReplica, MissingRange, NoMoment, Damaged, PageMissing, OutputExists, StoreFault, TargetFault, SinkFault, Memory}
-use Rattle.litestream_core.specs.Asked.{IsMissing, IsBefore, IsBadHeader, IsTooEarly}
+use Rattle.litestream_core.specs.Asked.{IsMissing, IsBefore, IsBadHeader, IsTooEarly, HasBadHeaderAt}
 use Rattle.litestream_core.specs.Command.{LacksOutput}
 use Rattle.litestream_core.specs.Request.{Request}
 
@@ -83,7 +82,7 @@ ExplainsReading r store before now SinkFault = ⊥
 -- why there is no transaction of a moment
 abbrev pub ExplainsMoment : Told → ℕ → ℕ → List FileName → ℤ → Why → Type 0
 ExplainsMoment store before now names moment NoMoment = IfTold store (λ events. IsTooEarly events names moment)
-ExplainsMoment store before now names moment (Damaged name damage) = IfTold store (λ events. IsFirstBadHeader events names name damage)
+ExplainsMoment store before now names moment (Damaged name damage) = IfTold store (λ events. HasBadHeaderAt events names moment name damage)
 ExplainsMoment store before now names moment StoreFault = Rose before now
 ExplainsMoment store before now names moment Memory = ⊤
 ExplainsMoment store before now names moment Done = ⊥
