@@ -1,7 +1,7 @@
 //! Replicas with damaged files.
 
 use crate::carrying::carried_out;
-use crate::files::{LACKING, OUTPUT, WHOLE, bytes_of, replica};
+use crate::files::{LACKING, OUTPUT, Replica, WHOLE, bytes_of, disk_of};
 use crash_disk::{Disk, MemDisk, MemOut};
 use litestream_core::Why;
 use ltx_format::LtxFault;
@@ -76,7 +76,7 @@ fn a_damaged_file_is_told(rt: HostRuntime) -> Result<(), Fail> {
 
 #[test]
 fn a_missing_page_is_told(rt: HostRuntime) -> Result<(), Fail> {
-    let mut store = replica(rt.alloc(), &[LACKING, WHOLE])?;
+    let mut store = disk_of(rt.alloc(), Replica::Lacking)?;
     let mut target = MemDisk::new(rt.alloc());
     let mut out = MemOut::new(rt.alloc());
     let line = "restore -o D/o R";

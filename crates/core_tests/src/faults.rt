@@ -1,7 +1,7 @@
 //! Restores of which one call fails.
 
 use crate::carrying::carried_out;
-use crate::files::{WHOLE, holds, replica};
+use crate::files::{Replica, disk_of, holds};
 use crate::stops::{CALLS, LINE, PAGES, RENAMED};
 use crash_disk::{Disk, MemDisk, MemOut, Out};
 use litestream_core::Why;
@@ -14,7 +14,7 @@ use std::test::Fail;
 const STORE_CALLS: u64 = 4;
 
 fn check_target(rt: &impl Abort, alloc: Global, call: u64) -> Result<(), Fail> {
-    let mut store = replica(alloc, &[WHOLE])?;
+    let mut store = disk_of(alloc, Replica::Whole)?;
     let mut target = MemDisk::new(alloc);
     target.fail_at(call)?;
     let mut out = MemOut::new(alloc);
@@ -38,7 +38,7 @@ fn a_failing_call_on_the_target_is_told(rt: HostRuntime) -> Result<(), Fail> {
 }
 
 fn check_store(rt: &impl Abort, alloc: Global, call: u64) -> Result<(), Fail> {
-    let mut store = replica(alloc, &[WHOLE])?;
+    let mut store = disk_of(alloc, Replica::Whole)?;
     store.fail_at(call)?;
     let mut target = MemDisk::new(alloc);
     let mut out = MemOut::new(alloc);
@@ -62,7 +62,7 @@ fn a_failing_call_on_the_store_is_told(rt: HostRuntime) -> Result<(), Fail> {
 
 #[test]
 fn a_failing_output_stream_is_told(rt: HostRuntime) -> Result<(), Fail> {
-    let mut store = replica(rt.alloc(), &[WHOLE])?;
+    let mut store = disk_of(rt.alloc(), Replica::Whole)?;
     let mut target = MemDisk::new(rt.alloc());
     let mut out = MemOut::new(rt.alloc());
     out.fail_at(1)?;

@@ -130,12 +130,49 @@ pub fn bytes_of(alloc: Global, made: &Made) -> Result<Vec<u8>, AllocError> {
     Ok(file)
 }
 
-/// A replica of the files.
-pub fn replica(alloc: Global, files: &[Made]) -> Result<MemDisk, Fail> {
-    let mut store = MemDisk::new(alloc);
+/// The replicas of the tests.
+#[derive(Clone, Copy)]
+pub enum Replica {
+    /// No file.
+    Empty,
+    /// Transaction 1.
+    Whole,
+    /// Transactions 1 and 2 of one moment.
+    Two,
+    /// Transactions 1 to 3, of which the second adds a page and the third leaves one.
+    Growing,
+    /// Transactions 1 to 4, and 5 and 6.
+    Runs,
+    /// Transactions 1 and 2, where the second lacks a page.
+    Lacking,
+}
+
+const TWO: [Made; 2] = [PIECE, WHOLE];
+
+const GROWING: [Made; 3] = [GROWN, SHRUNK, WHOLE];
+
+const RUNS: [Made; 2] = [NEXT_TWO, FIRST_FOUR];
+
+const LACKING_ONE: [Made; 2] = [LACKING, WHOLE];
+
+fn put_files(alloc: Global, store: &mut MemDisk, files: &[Made]) -> Result<(), Fail> {
     for made in files {
         let bytes = bytes_of(alloc, made)?;
         store.put_file(made.path, &bytes)?;
+    }
+    Ok(())
+}
+
+/// A disk with the replica.
+pub fn disk_of(alloc: Global, replica: Replica) -> Result<MemDisk, Fail> {
+    let mut store = MemDisk::new(alloc);
+    match replica {
+        Replica::Empty => {}
+        Replica::Whole => put_files(alloc, &mut store, &[WHOLE])?,
+        Replica::Two => put_files(alloc, &mut store, &TWO)?,
+        Replica::Growing => put_files(alloc, &mut store, &GROWING)?,
+        Replica::Runs => put_files(alloc, &mut store, &RUNS)?,
+        Replica::Lacking => put_files(alloc, &mut store, &LACKING_ONE)?,
     }
     Ok(store)
 }

@@ -1,14 +1,13 @@
 //! Command lines, with what each answers, prints and leaves, by hand from the rules.
 
-use crate::files::{FIRST_FOUR, GROWN, Made, NEXT_TWO, PIECE, SHRUNK, WHOLE};
+use crate::files::Replica;
 use litestream_core::Why;
 use ls_words::{Usage, UsageWhy};
 
 /// A line, and what it does.
 pub struct Row {
     pub line: &'static str,
-    /// The files of the replica.
-    pub files: &'static [Made],
+    pub replica: Replica,
     /// The bytes of the pages of the output that is there before; none where it isn't.
     pub there: &'static [u8],
     pub why: Why,
@@ -19,11 +18,11 @@ pub struct Row {
     pub left: &'static [u8],
 }
 
-pub const ROWS: [Row; 35] = [
-    // A file of two pages, by words in each order and form.
+/// A file of two pages, by words in each order and form.
+pub const FORMS: [Row; 4] = [
     Row {
         line: "restore -o D/o -txid 1 R",
-        files: &[WHOLE],
+        replica: Replica::Whole,
         there: &[],
         why: Why::Done,
         status: 0,
@@ -32,7 +31,7 @@ pub const ROWS: [Row; 35] = [
     },
     Row {
         line: "restore -txid 1 -o o R",
-        files: &[WHOLE],
+        replica: Replica::Whole,
         there: &[],
         why: Why::Done,
         status: 0,
@@ -41,7 +40,7 @@ pub const ROWS: [Row; 35] = [
     },
     Row {
         line: "restore -txid=0000000000000001 --o=D/o R",
-        files: &[WHOLE],
+        replica: Replica::Whole,
         there: &[],
         why: Why::Done,
         status: 0,
@@ -50,17 +49,20 @@ pub const ROWS: [Row; 35] = [
     },
     Row {
         line: "restore -if-db-not-exists -if-replica-exists --o /o -- R",
-        files: &[WHOLE],
+        replica: Replica::Whole,
         there: &[],
         why: Why::Done,
         status: 0,
         text: "restored 0000000000000001 pages 2\n",
         left: &[0x11, 0x22],
     },
-    // An output that is there.
+];
+
+/// An output that is there.
+pub const OUTPUTS: [Row; 4] = [
     Row {
         line: "restore -o D/o -txid 1 R",
-        files: &[WHOLE],
+        replica: Replica::Whole,
         there: &[0x11, 0x22],
         why: Why::OutputExists(1024),
         status: 1,
@@ -69,7 +71,7 @@ pub const ROWS: [Row; 35] = [
     },
     Row {
         line: "restore -o D/o -if-db-not-exists=false R",
-        files: &[WHOLE],
+        replica: Replica::Whole,
         there: &[0x99],
         why: Why::OutputExists(512),
         status: 1,
@@ -78,7 +80,7 @@ pub const ROWS: [Row; 35] = [
     },
     Row {
         line: "restore -o D/o -txid 1 -if-db-not-exists R",
-        files: &[WHOLE],
+        replica: Replica::Whole,
         there: &[0x11, 0x22],
         why: Why::SkippedOutput,
         status: 0,
@@ -87,17 +89,20 @@ pub const ROWS: [Row; 35] = [
     },
     Row {
         line: "restore -o D/o -if-db-not-exists R",
-        files: &[],
+        replica: Replica::Empty,
         there: &[0x99],
         why: Why::SkippedOutput,
         status: 0,
         text: "",
         left: &[0x99],
     },
-    // A replica without files.
+];
+
+/// A replica without files.
+pub const ABSENT: [Row; 3] = [
     Row {
         line: "restore -o D/o R",
-        files: &[],
+        replica: Replica::Empty,
         there: &[],
         why: Why::NoReplica,
         status: 1,
@@ -106,7 +111,7 @@ pub const ROWS: [Row; 35] = [
     },
     Row {
         line: "restore -o D/o -txid 1 -if-replica-exists=0 R",
-        files: &[],
+        replica: Replica::Empty,
         there: &[],
         why: Why::NoReplica,
         status: 1,
@@ -115,17 +120,20 @@ pub const ROWS: [Row; 35] = [
     },
     Row {
         line: "restore -o D/o -if-replica-exists R",
-        files: &[],
+        replica: Replica::Empty,
         there: &[],
         why: Why::SkippedReplica,
         status: 0,
         text: "",
         left: &[],
     },
-    // Transactions to which no chain leads.
+];
+
+/// Transactions to which no chain leads.
+pub const MISSING: [Row; 3] = [
     Row {
         line: "restore -o D/o -txid 2 R",
-        files: &[WHOLE],
+        replica: Replica::Whole,
         there: &[],
         why: Why::MissingRange(1),
         status: 1,
@@ -134,7 +142,7 @@ pub const ROWS: [Row; 35] = [
     },
     Row {
         line: "restore -o D/o -txid 5 R",
-        files: &[NEXT_TWO, FIRST_FOUR],
+        replica: Replica::Runs,
         there: &[],
         why: Why::MissingRange(4),
         status: 1,
@@ -143,17 +151,20 @@ pub const ROWS: [Row; 35] = [
     },
     Row {
         line: "restore -o D/o -txid 3 R",
-        files: &[NEXT_TWO, FIRST_FOUR],
+        replica: Replica::Runs,
         there: &[],
         why: Why::MissingRange(0),
         status: 1,
         text: "",
         left: &[],
     },
-    // Chains of files, and the newest.
+];
+
+/// Chains of files, and the newest.
+pub const CHAINS: [Row; 4] = [
     Row {
         line: "restore -o D/o -txid 6 -if-replica-exists R",
-        files: &[NEXT_TWO, FIRST_FOUR],
+        replica: Replica::Runs,
         there: &[],
         why: Why::Done,
         status: 0,
@@ -162,7 +173,7 @@ pub const ROWS: [Row; 35] = [
     },
     Row {
         line: "restore -o D/o -txid 4 R",
-        files: &[NEXT_TWO, FIRST_FOUR],
+        replica: Replica::Runs,
         there: &[],
         why: Why::Done,
         status: 0,
@@ -171,7 +182,7 @@ pub const ROWS: [Row; 35] = [
     },
     Row {
         line: "restore -o D/o R",
-        files: &[PIECE, WHOLE],
+        replica: Replica::Two,
         there: &[],
         why: Why::Done,
         status: 0,
@@ -180,17 +191,20 @@ pub const ROWS: [Row; 35] = [
     },
     Row {
         line: "restore -o D/o R",
-        files: &[NEXT_TWO, FIRST_FOUR],
+        replica: Replica::Runs,
         there: &[],
         why: Why::Done,
         status: 0,
         text: "restored 0000000000000006 pages 2\n",
         left: &[0x11, 0x55],
     },
-    // A database that grows and shrinks.
+];
+
+/// A database that grows and shrinks.
+pub const GROWTH: [Row; 3] = [
     Row {
         line: "restore -o D/o -txid 1 R",
-        files: &[GROWN, SHRUNK, WHOLE],
+        replica: Replica::Growing,
         there: &[],
         why: Why::Done,
         status: 0,
@@ -199,7 +213,7 @@ pub const ROWS: [Row; 35] = [
     },
     Row {
         line: "restore -o D/o -txid 2 R",
-        files: &[GROWN, SHRUNK, WHOLE],
+        replica: Replica::Growing,
         there: &[],
         why: Why::Done,
         status: 0,
@@ -208,17 +222,20 @@ pub const ROWS: [Row; 35] = [
     },
     Row {
         line: "restore -o D/o R",
-        files: &[GROWN, SHRUNK, WHOLE],
+        replica: Replica::Growing,
         there: &[],
         why: Why::Done,
         status: 0,
         text: "restored 0000000000000003 pages 1\n",
         left: &[0x44],
     },
-    // Moments.
+];
+
+/// Moments.
+pub const MOMENTS: [Row; 8] = [
     Row {
         line: "restore -o D/o -timestamp 2023-11-14T22:13:20Z R",
-        files: &[PIECE, WHOLE],
+        replica: Replica::Two,
         there: &[],
         why: Why::Done,
         status: 0,
@@ -227,7 +244,7 @@ pub const ROWS: [Row; 35] = [
     },
     Row {
         line: "restore -o D/o -timestamp 2023-11-14T23:13:20+01:00 R",
-        files: &[PIECE, WHOLE],
+        replica: Replica::Two,
         there: &[],
         why: Why::Done,
         status: 0,
@@ -236,7 +253,7 @@ pub const ROWS: [Row; 35] = [
     },
     Row {
         line: "restore -o D/o -timestamp 2023-11-14T22:13:19.999Z R",
-        files: &[PIECE, WHOLE],
+        replica: Replica::Two,
         there: &[],
         why: Why::NoMoment,
         status: 1,
@@ -245,7 +262,7 @@ pub const ROWS: [Row; 35] = [
     },
     Row {
         line: "restore -o D/o -timestamp 1969-12-31T23:59:59.999Z R",
-        files: &[PIECE, WHOLE],
+        replica: Replica::Two,
         there: &[],
         why: Why::NoMoment,
         status: 1,
@@ -254,7 +271,7 @@ pub const ROWS: [Row; 35] = [
     },
     Row {
         line: "restore -o D/o -timestamp 1969-12-31T23:59:59.999Z R",
-        files: &[],
+        replica: Replica::Empty,
         there: &[],
         why: Why::NoReplica,
         status: 1,
@@ -263,7 +280,7 @@ pub const ROWS: [Row; 35] = [
     },
     Row {
         line: "restore -o D/o -timestamp 2023-11-14T22:13:20.999Z R",
-        files: &[GROWN, SHRUNK, WHOLE],
+        replica: Replica::Growing,
         there: &[],
         why: Why::Done,
         status: 0,
@@ -272,7 +289,7 @@ pub const ROWS: [Row; 35] = [
     },
     Row {
         line: "restore -o D/o -timestamp 2023-11-14T22:13:21Z R",
-        files: &[GROWN, SHRUNK, WHOLE],
+        replica: Replica::Growing,
         there: &[],
         why: Why::Done,
         status: 0,
@@ -281,17 +298,20 @@ pub const ROWS: [Row; 35] = [
     },
     Row {
         line: "restore -o D/o -timestamp 9999-12-31T23:59:59Z R",
-        files: &[GROWN, SHRUNK, WHOLE],
+        replica: Replica::Growing,
         there: &[],
         why: Why::Done,
         status: 0,
         text: "restored 0000000000000003 pages 1\n",
         left: &[0x44],
     },
-    // Words that are none, and commands that aren't built.
+];
+
+/// Words that are none, and commands that aren't built.
+pub const WORDS: [Row; 6] = [
     Row {
         line: "restore -o",
-        files: &[WHOLE],
+        replica: Replica::Whole,
         there: &[],
         why: Why::Usage(Usage {
             word: 2,
@@ -303,7 +323,7 @@ pub const ROWS: [Row; 35] = [
     },
     Row {
         line: "restor",
-        files: &[WHOLE],
+        replica: Replica::Whole,
         there: &[],
         why: Why::Usage(Usage {
             word: 0,
@@ -315,7 +335,7 @@ pub const ROWS: [Row; 35] = [
     },
     Row {
         line: "restore -o D/o -txid 0 R",
-        files: &[WHOLE],
+        replica: Replica::Whole,
         there: &[],
         why: Why::Usage(Usage {
             word: 4,
@@ -327,7 +347,7 @@ pub const ROWS: [Row; 35] = [
     },
     Row {
         line: "replicate d r",
-        files: &[WHOLE],
+        replica: Replica::Whole,
         there: &[],
         why: Why::NotBuilt,
         status: 2,
@@ -336,7 +356,7 @@ pub const ROWS: [Row; 35] = [
     },
     Row {
         line: "ltx r",
-        files: &[WHOLE],
+        replica: Replica::Whole,
         there: &[],
         why: Why::NotBuilt,
         status: 2,
@@ -345,7 +365,7 @@ pub const ROWS: [Row; 35] = [
     },
     Row {
         line: "demo",
-        files: &[WHOLE],
+        replica: Replica::Whole,
         there: &[],
         why: Why::NotBuilt,
         status: 2,

@@ -1,7 +1,7 @@
 //! A restore that a stop of the machine cuts off, and what a crash then leaves.
 
 use crate::carrying::carried_out;
-use crate::files::{WHOLE, holds, replica};
+use crate::files::{Replica, disk_of, holds};
 use crash_disk::{MemDisk, MemOut};
 use litestream_core::Why;
 use std::alloc::Global;
@@ -40,31 +40,39 @@ fn restores_anew(alloc: Global, store: &mut MemDisk, target: &mut MemDisk) -> Re
     Ok(outcome.why == Why::Done && holds(alloc, target, &PAGES)?)
 }
 
-fn check(rt: &impl Abort, alloc: Global, calls: u64, choice: u64) -> Result<(), Fail> {
-    let mut store = replica(alloc, &[WHOLE])?;
-    let mut target = MemDisk::new(alloc);
+/// The restore stopped behind so many calls. Whether it was done.
+fn stopped(
+    alloc: Global,
+    calls: u64,
+    store: &mut MemDisk,
+    target: &mut MemDisk,
+) -> Result<bool, Fail> {
     target.stop_after(calls);
     let mut out = MemOut::new(alloc);
-    let outcome = carried_out(alloc, LINE, &mut store, &mut target, &mut out)?;
-    let why = if calls == CALLS {
-        Why::Done
-    } else {
-        Why::TargetFault
-    };
-    assert_eq!(rt; outcome.why, why, "stop after {calls}");
+    let outcome = carried_out(alloc, LINE, store, target, &mut out)?;
+    Ok(outcome.why == Why::Done)
+}
+
+/// Whether there is an output that is whole.
+fn is_there(alloc: Global, target: &mut MemDisk) -> Result<bool, Fail> {
+    let whole = holds(alloc, target, &PAGES)?;
+    if !whole && !holds(alloc, target, &[])? {
+        return Err("neither whole nor absent".into());
+    }
+    Ok(whole)
+}
+
+fn check(rt: &impl Abort, alloc: Global, calls: u64, choice: u64) -> Result<(), Fail> {
+    let mut store = disk_of(alloc, Replica::Whole)?;
+    let mut target = MemDisk::new(alloc);
+    let done = stopped(alloc, calls, &mut store, &mut target)?;
+    assert!(rt; done == (calls == CALLS), "stop after {calls}");
     target.crash(choice)?;
-    let whole = holds(alloc, &mut target, &PAGES)?;
-    let absent = holds(alloc, &mut target, &[])?;
-    assert!(rt; whole || absent, "stop after {calls}, choice {choice}");
-    assert_eq!(rt;
-        stands(calls, choice).unwrap_or(whole),
-        whole,
-        "stop after {calls}, choice {choice}"
-    );
-    assert!(rt;
-        whole || restores_anew(alloc, &mut store, &mut target)?,
-        "anew after {calls}, choice {choice}"
-    );
+    let there = is_there(alloc, &mut target)?;
+    let as_told = stands(calls, choice).unwrap_or(there) == there;
+    assert!(rt; as_told, "stop after {calls}, choice {choice}");
+    let anew = there || restores_anew(alloc, &mut store, &mut target)?;
+    assert!(rt; anew, "anew after {calls}, choice {choice}");
     Ok(())
 }
 
