@@ -1,5 +1,6 @@
 -- From the steps of a restore to what its answers mean.
 use Rattle.std.proofs.Common.{◌≡◌, ℕ, ◌≤◌, List, [], length, Option, Some, None, refl, sym, ap, subst, ◌∙◌, inl, inr, arith}
+use Rattle.std.specs.Prelude.{Result, Ok, Err, OnOk, IfErr}
 use Rattle.crash_disk.specs.Fault.{Rose}
 use Rattle.crash_disk.specs.Told.{Told, IfTold}
 use Rattle.crash_disk.specs.Output.{gains_text, GainsFront}
@@ -15,7 +16,7 @@ use Rattle.restore_plan.specs.declared.chain.PlanFault.{PlanFault}
 use Rattle.restore_plan.specs.declared.chain.PlanFault.TheVariants as plan
 use Rattle.restore_plan.specs.Retained.{IsGreatestRetainedBelow}
 use Rattle.litestream_core.specs.Asked.{IsPlan, IsAsked, AreNames}
-use Rattle.litestream_core.specs.Command.{Scene, Explains, LacksOutput, Restores}
+use Rattle.litestream_core.specs.Command.{Scene, Explains, LacksOutput, Restores, why_of}
 use Rattle.litestream_core.specs.Line.{restored_text}
 use Rattle.litestream_core.specs.Preparing.{why_of_fault, why_of_plan, ExplainsReading}
 use Rattle.litestream_core.specs.Request.{Request}
@@ -117,3 +118,8 @@ explains_plan r store before now names t (plan.MissingRange after) are asked mis
   greatest = greatest after refl;
 }
 explains_plan r store before now names t plan.Memory are asked missing greatest = tt
+
+-- what holds of a restore that returned well holds where the answer is Done
+pub where_done : (ended : Result (Unit {0}) Why) (P : Type 0) → OnOk ended P → IfErr ended (λ why. why ≡ Done → ⊥) → why_of ended ≡ Done → P
+where_done (Ok x) P holds never done = holds
+where_done (Err why) P holds never done = absurd (never done)

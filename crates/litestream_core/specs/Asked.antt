@@ -1,5 +1,5 @@
 -- Which transaction a restore asks for, and the chain of files to it.
-use Rattle.std.specs.Prelude.{◌≡◌, ◌≢◌, ℕ, ◌≤◌, List, [], ℤ, pos, negsuc}
+use Rattle.std.specs.Prelude.{◌≡◌, ◌≢◌, ℕ, ◌≤◌, List, [], Option, Some, ℤ, pos, negsuc}
 use Rattle.std.specs.List.{Contains}
 use Rattle.crash_disk.specs.declared.event.Event.{Event}
 use Rattle.ls_words.specs.declared.command.Target.{Target}
@@ -91,3 +91,8 @@ pub record IsBadHeader (events : List Event) (r : Request) (name : FileName) (da
   pub names : List FileName
   pub are : AreNames events names
   pub bad : HasBadHeader events names r.target name damage
+
+-- the disks are attached to the folders of the replica and of the output
+pub record AreAttached (r : Request) (store target : Option (List ℕ)) : Type 0 where
+  pub replica : store ≡ Some r.replica
+  pub output : target ≡ Some r.folder

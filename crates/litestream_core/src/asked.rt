@@ -52,6 +52,7 @@ fn at_moment<S: Disk>(
     ensures of_moment { IfOk result (λ t. IfTold (S.told store.old) (λ events. IsOfMoment events names.now moment t)) }
     ensures explained { IfErr result (ExplainsMoment (S.told store.old) (S.fault_count store.old) (S.fault_count store.new) names.now moment) }
     ensures unchanged { S.told store.new ≡ S.told store.old }
+    ensures same_folder { S.folder store.new ≡ S.folder store.old }
     ensures later { S.fault_count store.old ≤ S.fault_count store.new }
 {
     let Ok(ms) = u64::try_from(moment) else {
@@ -77,6 +78,7 @@ pub fn asked<S: Disk>(
     ensures asked { IfOk result (λ t. IfTold (S.told store.old) (λ events. IsAsked events names.now request.now.target t)) }
     ensures explained { IfErr result (ExplainsReading (as_request request.now) (S.told store.old) (S.fault_count store.old) (S.fault_count store.new)) }
     ensures unchanged { S.told store.new ≡ S.told store.old }
+    ensures same_folder { S.folder store.new ≡ S.folder store.old }
     ensures later { S.fault_count store.old ≤ S.fault_count store.new }
 {
     match request.target {

@@ -1,10 +1,11 @@
 //! Carrying out a command.
 
-ghost use Rattle.std.specs.Prelude.{◌≡◌, ◌⊎◌, [], ℕ, Some, None, Ok, Err};
+ghost use Rattle.std.specs.Prelude.{◌≡◌, ◌⊎◌, [], ℕ, Some, None, Ok, Err, OnOk, IfErr};
 ghost use Rattle.ls_words.specs.declared.command.Command.{Command};
 ghost use Rattle.ls_words.specs.declared.usage.Usage.{Usage};
 ghost use Rattle.ls_words.specs.Command.{command_of};
-ghost use Rattle.litestream_core.specs.declared.outcome.Why.TheVariants.{NotBuilt, Memory, Usage as of_usage};
+ghost use Rattle.litestream_core.specs.declared.outcome.Why.TheVariants.{Done, NotBuilt, Memory, Usage as of_usage};
+ghost use Rattle.litestream_core.specs.Asked.{AreAttached};
 ghost use Rattle.litestream_core.specs.Command.{Explains, ForRequest, KeepsPromise, SurvivesAnyStop, why_of};
 ghost use Rattle.litestream_core.specs.Exact.{ComesExactly};
 ghost use Rattle.litestream_core.specs.Preparing.{why_of_fault};
@@ -53,6 +54,8 @@ fn restore<S: Disk, T: Disk, O: Out>(
       sink_faults = O.fault_count out.old;
       sink_faults_after = O.fault_count out.new;
     }) (why_of result) }
+    ensures not_done { IfErr result (λ why. why ≡ Done → ⊥) }
+    ensures attached { OnOk result (AreAttached (as_request request.now) (S.folder store.new) (T.folder target.new)) }
     ensures store_unchanged { S.told store.new ≡ S.told store.old }
 {
     let ready = prepare(alloc, request, store, target)?;
@@ -85,8 +88,8 @@ fn cause_of(ended: Result<(), Why>) -> Why
 /// reaches furthest at each step, and writes what they make under the output's name with `.litestream-tmp`
 /// behind it. It brings that file to the disk, gives it the output's name and brings the names to the disk, so
 /// that under the output's name stands the whole database or nothing. Then it prints
-/// `restored <T in 16 digits> pages <N>` to `out`. The other commands aren't built yet. Nothing is written to
-/// `err` yet.
+/// `restored <T in 16 digits> pages <N>` to `out`. `store` is attached to the replica's folder and `target` to
+/// the output's. The other commands aren't built yet. Nothing is written to `err` yet.
 pub fn litestream<S: Disk, T: Disk, O: Out>(
     alloc: Global,
     words: &Words,
@@ -142,6 +145,7 @@ pub fn litestream<S: Disk, T: Disk, O: Out>(
       sink_faults = O.fault_count out.old;
       sink_faults_after = O.fault_count out.new;
     }) result.why) }
+    ensures attached { ForRequest words.now (λ r. result.why ≡ Done → AreAttached r (S.folder store.new) (T.folder target.new)) }
     ensures at_any_stop { ForRequest words.now (λ r. SurvivesAnyStop r (S.told store.old) (T.told target.old) (T.told target.new)) }
 
     ensures store_unchanged { S.told store.new ≡ S.told store.old }

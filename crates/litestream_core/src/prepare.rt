@@ -1,10 +1,10 @@
 //! What a restore reads before it writes.
 
-ghost use Rattle.std.specs.Prelude.{◌≡◌, ◌≢◌, ◌≤◌, [], IfOk, IfErr, OnOk};
+ghost use Rattle.std.specs.Prelude.{◌≡◌, ◌≢◌, ◌≤◌, [], Some, IfOk, IfErr, OnOk};
 ghost use Rattle.crash_disk.specs.Told.{IfTold};
 ghost use Rattle.replica_store.specs.Chain.{IsListOrdered};
 ghost use Rattle.litestream_core.specs.declared.outcome.Why.TheVariants.{StoreFault, TargetFault};
-ghost use Rattle.litestream_core.specs.Asked.{AreNames, IsPlan};
+ghost use Rattle.litestream_core.specs.Asked.{AreNames, IsPlan, AreAttached};
 ghost use Rattle.litestream_core.specs.Command.{LacksOutput};
 ghost use Rattle.litestream_core.specs.Preparing.{IsRefusalOf, why_of_plan, ExplainsOutput, ExplainsReading, ExplainsPrepare};
 ghost use Rattle.litestream_core.specs.RequestView.{as_request};
@@ -56,6 +56,7 @@ fn plan_refusal(fault: PlanFault) -> Why
 fn find_output<T: Disk>(alloc: Global, request: &Request<'_>, target: &mut T) -> Result<(), Why>
     ensures absent { OnOk result (LacksOutput (T.told target.old) (as_request request.now)) }
     ensures explained { IfErr result (ExplainsOutput (as_request request.now) (T.told target.old) (T.fault_count target.old) (T.fault_count target.new)) }
+    ensures attached { OnOk result (T.folder target.new ≡ Some request.now.folder.now) }
     ensures unchanged { T.told target.new ≡ T.told target.old }
     ensures later { T.fault_count target.old ≤ T.fault_count target.new }
 {
@@ -80,6 +81,7 @@ fn find_names<S: Disk>(
     ensures some { IfOk result (λ names. names ≢ []) }
     ensures in_order { IfOk result (λ names. IsListOrdered names) }
     ensures names { IfOk result (λ names. IfTold (S.told store.old) (λ events. AreNames events names)) }
+    ensures attached { OnOk result (S.folder store.new ≡ Some request.now.replica.now) }
     ensures explained { IfErr result (ExplainsReading (as_request request.now) (S.told store.old) (S.fault_count store.old) (S.fault_count store.new)) }
     ensures unchanged { S.told store.new ≡ S.told store.old }
     ensures later { S.fault_count store.old ≤ S.fault_count store.new }
@@ -99,6 +101,7 @@ fn find_names<S: Disk>(
 fn find_plan<S: Disk>(alloc: Global, request: &Request<'_>, store: &mut S) -> Result<Prepared, Why>
     ensures some { IfOk result (λ ready. ready.plan ≢ []) }
     ensures plan { IfOk result (λ ready. IfTold (S.told store.old) (λ events. IsPlan events (as_request request.now) ready.txid ready.plan)) }
+    ensures attached { OnOk result (S.folder store.new ≡ Some request.now.replica.now) }
     ensures explained { IfErr result (ExplainsReading (as_request request.now) (S.told store.old) (S.fault_count store.old) (S.fault_count store.new)) }
     ensures unchanged { S.told store.new ≡ S.told store.old }
     ensures later { S.fault_count store.old ≤ S.fault_count store.new }
@@ -122,6 +125,7 @@ pub fn prepare<S: Disk, T: Disk>(
     ensures absent { IfOk result (λ _. LacksOutput (T.told target.old) (as_request request.now)) }
     ensures some { IfOk result (λ ready. ready.plan ≢ []) }
     ensures plan { IfOk result (λ ready. IfTold (S.told store.old) (λ events. IsPlan events (as_request request.now) ready.txid ready.plan)) }
+    ensures attached { OnOk result (AreAttached (as_request request.now) (S.folder store.new) (T.folder target.new)) }
     ensures explained { IfErr result (ExplainsPrepare (as_request request.now) (S.told store.old) (S.fault_count store.old) (S.fault_count store.new) (T.told target.old) (T.fault_count target.old) (T.fault_count target.new)) }
     ensures store_unchanged { S.told store.new ≡ S.told store.old }
     ensures target_unchanged { T.told target.new ≡ T.told target.old }

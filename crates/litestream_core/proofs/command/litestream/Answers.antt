@@ -1,6 +1,7 @@
 use Rattle.std.proofs.Common.{sym, ap, ◌∙◌}
 use Rattle.litestream_core.specs.Request.{asked_in}
 use Rattle.litestream_core.specs.RequestView.{as_request}
+use Rattle.litestream_core.proofs.CommandLemmas.{where_done}
 use Rattle.litestream_core.proofs.ExactLemmas.{comes_exactly}
 use Rattle.litestream_core.proofs.Theorems.{keeps_promise, survives_any_stop, for_request}
 use Rattle.litestream_core.proofs.command.litestream.Goals as goal
@@ -22,3 +23,8 @@ returns-clause-promise g c =
 pub returns-clause-at_any_stop : goal.returns-clause-at_any_stop
 returns-clause-at_any_stop g c =
     for_request c.args.words.now (as_request c.in-Some.request) _ (ap asked_in c.in-Ok.ensures.ok ∙ sym c.in-Some.ensures) (survives_any_stop (as_request c.in-Some.request) _ _ c.restore-ended.ensures.explained)
+
+pub returns-clause-attached : goal.returns-clause-attached
+returns-clause-attached g c =
+    for_request c.args.words.now (as_request c.in-Some.request) _ (ap asked_in c.in-Ok.ensures.ok ∙ sym c.in-Some.ensures)
+    (λ done. where_done c.restore-ended.result _ c.restore-ended.ensures.attached c.restore-ended.ensures.not_done (sym c.cause_of.ensures ∙ sym c.of-2.ensures.cause ∙ done))
