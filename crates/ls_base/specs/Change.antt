@@ -1,10 +1,11 @@
 -- Changes, and what one makes of a state.
-use Rattle.std.specs.Prelude.{◌≡◌, ℕ, zero, suc, ◌≤◌, List, [], map, Option, Some, None, IsSome, unwrap_or}
+use Rattle.std.specs.Prelude.{◌≡◌, ℕ, ◌≤◌, Bool, true, false, ◌==◌, List, [], map, replicate, Option, Some, IsSome, unwrap_or}
 use Rattle.std.specs.Option.{option_or}
-use Rattle.std.specs.List.{range_with_len, slice_get}
+use Rattle.std.specs.List.{range_with_len}
 use Rattle.std.specs.Ordering.{nat_cmp}
 use Rattle.std.specs.FinMap.{FinMap, get}
-use Rattle.ls_base.specs.State.{State}
+use Rattle.ls_base.specs.PageSize.{lock_page}
+use Rattle.ls_base.specs.State.{State, page_of}
 
 -- a page size, the number of pages afterwards, and pages by their number
 pub record Change : Type 0 where
@@ -12,14 +13,14 @@ pub record Change : Type 0 where
   pub commit : ℕ
   pub pages : FinMap nat_cmp (List ℕ)
 
--- the page of this number, counted from 1
-abbrev pub page_of : State → ℕ → Option (List ℕ)
-page_of s zero = None
-page_of s (suc n) = slice_get s.pages n
+-- the lock page is zeros, any other page is the change's where it has one, else the state's
+abbrev pub page_where : Bool → State → Change → ℕ → Option (List ℕ)
+page_where true s c p = Some (replicate c.page_size 0)
+page_where false s c p = option_or (get c.pages p) (page_of s p)
 
--- the page of this number after the change: the change's where it has one, else the state's
+-- the page of this number after the change
 abbrev pub page_after : State → Change → ℕ → Option (List ℕ)
-page_after s c p = option_or (get c.pages p) (page_of s p)
+page_after s c p = page_where (p == lock_page c.page_size) s c p
 
 -- The change fits the state: the state is empty or has the change's page size, and each page of the
 -- state afterwards is in the change or in the state.

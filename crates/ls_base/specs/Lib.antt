@@ -1,4 +1,5 @@
 pub mod PageSize
+pub mod Limits
 pub mod Txid
 pub mod TxidLaws
 pub mod Page
@@ -7,3 +8,4 @@ pub mod Change
 pub mod Place
 pub mod History
 pub mod SyncLog
+pub mod Fault

@@ -1,5 +1,5 @@
 -- The digits of a transaction write it.
-use Rattle.std.proofs.Common.{◌≡◌, ℕ, zero, suc, ◌+◌, ◌-◌, ◌*◌, ◌/◌, ◌%◌, ◌^◌, ◌<◌, ◌≤◌, true, cond, ltb, leb, List, [], ◌∷◌, map, length, Option, Some, None, refl, sym, ap, ◌∙◌, arith}
+use Rattle.std.proofs.Common.{◌≡◌, ℕ, zero, suc, ◌+◌, ◌-◌, ◌*◌, ◌/◌, ◌%◌, ◌^◌, ◌<◌, true, List, [], ◌∷◌, map, Some, refl, sym, ap, ◌∙◌, arith}
 use Rattle.std.specs.Char.{digit_value, is_digit}
 use Rattle.std.specs.List.{range_with_len, list_all}
 use Rattle.std.specs.Str.Parse.{digits_value, digits_value_after}

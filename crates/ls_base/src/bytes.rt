@@ -12,6 +12,9 @@ pub struct Bytes {
     items: Vec<u8>,
 }
 
+/// The bytes of a file.
+pub type FileBytes = Bytes;
+
 impl Model for Bytes {
     ghost use Rattle.std.specs.Prelude.{ℕ, List};
 

@@ -10,6 +10,8 @@
 
 mod bytes;
 mod change_pages;
+mod entry;
+mod limits;
 mod line;
 mod mark;
 mod memory;
@@ -21,8 +23,10 @@ mod place;
 mod tests;
 mod txid;
 
-pub use bytes::Bytes;
+pub use bytes::{Bytes, FileBytes};
 pub use change_pages::ChangePages;
+pub use entry::Entry;
+pub use limits::{DATABASE_LIMIT, LOG_LIMIT};
 pub use line::Line;
 pub use mark::Mark;
 pub use memory::Memory;

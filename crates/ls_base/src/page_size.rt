@@ -2,9 +2,12 @@
 
 ghost use Rattle.std.specs.Prelude.{◌≡◌, IsTrue};
 ghost use Rattle.std.specs.Option.{SomeIff};
-ghost use Rattle.ls_base.specs.PageSize.{IsPageSize, is_page_size};
+ghost use Rattle.ls_base.specs.PageSize.{IsPageSize, is_page_size, lock_page};
 
 use std::marker::Model;
+
+/// The offset in bytes at which the lock page begins.
+const LOCK_BYTE: u32 = 1 << 30;
 
 const PAGE_SIZES: [u32; 8] = [512, 1024, 2048, 4096, 8192, 16384, 32768, 65536];
 
@@ -45,5 +48,13 @@ impl PageSize {
         ensures valid { IsPageSize self.now }
     {
         self.bytes
+    }
+
+    /// The number of the lock page, counted from 1: the page that holds the byte at offset 2^30. SQLite
+    /// never uses that page (SQLite database file format, section 1.6).
+    pub fn lock_page(&self) -> u32
+        ensures { result ≡ lock_page self.now }
+    {
+        LOCK_BYTE / self.bytes + 1
     }
 }
