@@ -1,6 +1,6 @@
 -- Chains of files that lead to a transaction. This project's rule.
 use Rattle.std.specs.Prelude.{◌≡◌, ℕ, ◌+◌, ◌<◌, ◌≤◌, ◌==◌, List, [], ◌∷◌, map, Option, Some, None, if◌then◌else◌}
-use Rattle.std.specs.List.{Contains}
+use Rattle.std.specs.List.{Contains, AllByRecursion}
 use Rattle.std.specs.List.Sorted.{IsSorted}
 use Rattle.std.specs.Ordering.{nat_cmp, ordering_then}
 use Rattle.std.specs.declared.cmp.Ordering.{Ordering}
@@ -31,6 +31,11 @@ LeadsTo names from (name ∷ chain) t = Contains names name × MayComeNext from 
 -- a chain to t, of these names: it leads there from nothing, which is transaction 0
 abbrev pub IsChain : List FileName → ℕ → List FileName → Type 0
 IsChain names t chain = LeadsTo names 0 chain t
+
+-- none of the files but the first begins with the first transaction
+abbrev pub BeginsOnce : List FileName → Type 0
+BeginsOnce [] = Unit {0}
+BeginsOnce (first ∷ rest) = AllByRecursion (λ name. 1 < name.min) rest
 
 -- a retained transaction: a chain leads to it
 pub record IsRetained (names : List FileName) (t : ℕ) : Type 0 where

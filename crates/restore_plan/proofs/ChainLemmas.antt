@@ -1,10 +1,10 @@
 -- Chains that grow by a file, and where they end.
-use Rattle.std.proofs.Common.{◌≡◌, ℕ, ◌+◌, ◌<◌, ◌≤◌, ◌⊎◌, inl, inr, zero, suc, List, [], ◌∷◌, ◌++◌, Option, Some, None, refl, sym, ap, ◌∙◌, subst, arith}
+use Rattle.std.proofs.Common.{◌≡◌, ℕ, ◌+◌, ◌<◌, ◌≤◌, ◌⊎◌, inl, inr, zero, suc, List, [], ◌∷◌, ◌++◌, length, Option, Some, None, refl, sym, ap, ◌∙◌, subst, arith}
 use Rattle.std.proofs.lemmas.Bool.{cases_lt}
-use Rattle.std.specs.List.{Contains}
+use Rattle.std.specs.List.{Contains, AllByRecursion}
 use Rattle.std.specs.Option.{IfNone}
 use Rattle.replica_store.specs.declared.file_name.FileName.{FileName}
-use Rattle.replica_store.specs.Chain.{MayComeNext, LeadsTo, IsRetained}
+use Rattle.replica_store.specs.Chain.{MayComeNext, LeadsTo, BeginsOnce, IsRetained}
 use Rattle.restore_plan.specs.ChosenChain.{MayLead, IsBestNext, IsChosenBetween}
 use Rattle.restore_plan.specs.Retained.{IsGreatestRetainedBelow}
 use Rattle.restore_plan.specs.Progress.{Progress, stepped}
@@ -98,3 +98,51 @@ not_missing names t greatest is other kept = other (omega (arith, is.below, is.o
 
 pub is_retained : (names : List FileName) (t greatest : ℕ) → 0 < t → IsGreatestRetainedBelow names (t + 1) greatest → greatest ≡ t → IsRetained names t
 is_retained names t greatest positive is e = elim is.is [ inl none ↦ absurd (omega (arith, none, e, positive)) | inr kept ↦ subst (λ n. IsRetained names n) e kept ]
+
+-- the best file reaches no less far than one that may come next after an earlier transaction
+no_less_far : (names : List FileName) (t low from : ℕ) (name one : FileName) → low ≤ from → IsBestNext names t from name
+    → Contains names one → MayComeNext low one → one.max ≤ t → one.max ≤ name.max
+no_less_far names t low from name one below best there next within = elim (cases_lt from one.max) [
+  | inl beyond ↦ (best.best one (record {
+    there = there;
+    next = record { begins = omega (arith, next.begins, below); goes_on = beyond };
+    within = within;
+  })).farthest
+  | inr behind ↦ omega (arith, behind, best.leads.next.goes_on)
+]
+
+-- no chain to t from an earlier transaction on has fewer files than the one that takes the best at each step
+pub fewest : (names : List FileName) (t from : ℕ) (chain : List FileName) → IsChosenBetween names t from chain t
+    → (low : ℕ) (other : List FileName) → low ≤ from → LeadsTo names low other t → length chain ≤ length other
+fewest names t from [] chosen low other below leads = omega arith
+fewest names t from (name ∷ chain) (best, chosen) low [] below leads =
+    absurd (omega (arith, leads, below, best.leads.next.goes_on, best.leads.within))
+fewest names t from (name ∷ chain) (best, chosen) low (one ∷ other) below (there, next, leads) =
+    let within = leads_up names one.max other t leads in
+    let reach = no_less_far names t low from name one below best there next within in
+    omega (arith, fewest names t name.max chain chosen one.max other reach leads)
+
+-- behind a transaction that no file reaches past which begins with the first, no file of the chain begins so
+behind_first : (names : List FileName) (t bound from : ℕ) (chain : List FileName) → bound ≤ from
+    → ((other : FileName) → Contains names other → other.min ≤ 1 → other.max ≤ t → other.max ≤ bound)
+    → IsChosenBetween names t from chain t → AllByRecursion (λ name. 1 < name.min) chain
+behind_first names t bound from [] low short chosen = tt
+behind_first names t bound from (name ∷ chain) low short (best, chosen) = (
+  elim (cases_lt 1 name.min) [
+    | inl later ↦ later
+    | inr early ↦ absurd (omega (arith, short name best.leads.there early best.leads.within, best.leads.next.goes_on))
+  ],
+  behind_first names t bound name.max chain (omega (arith, low, best.leads.next.goes_on)) short chosen,
+)
+
+pub begins_once : (names : List FileName) (t : ℕ) (chain : List FileName) → IsChosenBetween names t 0 chain t → BeginsOnce chain
+begins_once names t [] chosen = tt
+begins_once names t (first ∷ rest) (best, chosen) =
+    behind_first names t first.max first.max rest (omega arith) (λ other there early within. elim (cases_lt 0 other.max) [
+      | inl some ↦ (best.best other (record {
+        there = there;
+        next = record { begins = omega (arith, early); goes_on = some };
+        within = within;
+      })).farthest
+      | inr none ↦ omega (arith, none)
+    ]) chosen

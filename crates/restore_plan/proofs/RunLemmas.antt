@@ -11,7 +11,7 @@ use Rattle.replica_store.specs.Chain.{IsListOrdered}
 use Rattle.replica_store.specs.NameText.{is_level}
 use Rattle.restore_plan.specs.Choice.{IsAsGood}
 use Rattle.restore_plan.specs.ChosenChain.{MayLead, IsBestNext}
-use Rattle.restore_plan.specs.Run.{IsWithin, IsMatched, IsRun, IsSettled, AreRuns, levels}
+use Rattle.restore_plan.specs.Run.{IsWithin, IsMatched, IsRun, HasTakenIn, AreRuns, levels}
 use Rattle.restore_plan.specs.declared.run.Run.{Run}
 use Rattle.restore_plan.proofs.OrderLemmas.{in_level}
 
@@ -56,8 +56,8 @@ taken_more names t after run next name is there level at within more new = recor
 }
 
 -- at a name behind those that begin so early the rest of the level does too
-pub settled_from : (names : List FileName) (after : ℕ) (run : Run) (name : FileName) → IsListOrdered names → slice_get names run.at ≡ Some name → (run.level < name.level) ⊎ ((name.level ≡ run.level) × (after + 1 < name.min)) → IsSettled names after run
-settled_from names after run name up there behind = record {
+pub taken_to : (names : List FileName) (after : ℕ) (run : Run) (name : FileName) → IsListOrdered names → slice_get names run.at ≡ Some name → (run.level < name.level) ⊎ ((name.level ≡ run.level) × (after + 1 < name.min)) → HasTakenIn names after run
+taken_to names after run name up there behind = record {
   later = λ k d from inside same.
       let is_name : get_or names run.at d ≡ name = get_or_from_slice_get names run.at name d there in
       let far = in_level names up run.at k d from inside in
@@ -69,8 +69,8 @@ settled_from names after run name up there behind = record {
       ];
 }
 
-pub settled_at_end : (names : List FileName) (after : ℕ) (run : Run) → length names ≤ run.at → IsSettled names after run
-settled_at_end names after run end = record { later = λ k d from inside same. absurd (omega (arith, from, inside)) }
+pub taken_to_end : (names : List FileName) (after : ℕ) (run : Run) → length names ≤ run.at → HasTakenIn names after run
+taken_to_end names after run end = record { later = λ k d from inside same. absurd (omega (arith, from, inside)) }
 
 -- what a later transaction lets begin
 pub within_later : (names : List FileName) (t after later : ℕ) → after ≤ later → (best : Option FileName) → IfSome best (IsWithin names t after) → IfSome best (IsWithin names t later)
@@ -128,9 +128,9 @@ place_of level known =
 empty_run : Run
 empty_run = record { level = 0; at = 0; best = None }
 
--- where each run is settled the best of their bests is as good as each name within
+-- where each run has taken in its names the best of their bests is as good as each name within
 pub all_matched : (names : List FileName) (t after : ℕ) (runs : List Run) (best : Option FileName) → AreRuns names t after runs
-    → ((k : ℕ) (d : Run) → k < 5 → IsSettled names after (get_or runs k d) × IfSome (get_or runs k d).best (λ name. IsMatched best name)) → (name : FileName) → IsWithin names t after name → IsMatched best name
+    → ((k : ℕ) (d : Run) → k < 5 → HasTakenIn names after (get_or runs k d) × IfSome (get_or runs k d).best (λ name. IsMatched best name)) → (name : FileName) → IsWithin names t after name → IsMatched best name
 all_matched names t after runs best are done name is =
     let place = place_of name.level name.on_level in
     let run = get_or runs place.place empty_run in
@@ -189,16 +189,16 @@ five_runs names t after r0 r1 r2 r3 r4 e0 e1 e2 e3 e4 i0 i1 i2 i3 i4 =
     }
 
 -- one more run advanced
-pub more_settled : (names : List FileName) (t after : ℕ) (runs : List Run) (i : ℕ) (old new : Run) (best next : Option FileName) → AreRuns names t after runs
-    → ((k : ℕ) (d : Run) → k < i → IsSettled names after (get_or runs k d) × IfSome (get_or runs k d).best (λ name. IsMatched best name)) → IfSome best (IsWithin names t after)
-    → i < 5 → new.level ≡ (get_or runs i old).level → IsRun names t after new → IsSettled names after new
+pub more_taken_in : (names : List FileName) (t after : ℕ) (runs : List Run) (i : ℕ) (old new : Run) (best next : Option FileName) → AreRuns names t after runs
+    → ((k : ℕ) (d : Run) → k < i → HasTakenIn names after (get_or runs k d) × IfSome (get_or runs k d).best (λ name. IsMatched best name)) → IfSome best (IsWithin names t after)
+    → i < 5 → new.level ≡ (get_or runs i old).level → IsRun names t after new → HasTakenIn names after new
     → IfSome next (λ chosen. (best ≡ Some chosen) ⊎ (new.best ≡ Some chosen)) → IfSome best (λ name. IsMatched next name) → IfSome new.best (λ name. IsMatched next name)
-    → AreRuns names t after (set runs i new) × ((k : ℕ) (d : Run) → k < i + 1 → IsSettled names after (get_or (set runs i new) k d) × IfSome (get_or (set runs i new) k d).best (λ name. IsMatched next name)) × IfSome next (IsWithin names t after)
-more_settled names t after runs i old new best next are done within low level is settled one first second = (
+    → AreRuns names t after (set runs i new) × ((k : ℕ) (d : Run) → k < i + 1 → HasTakenIn names after (get_or (set runs i new) k d) × IfSome (get_or (set runs i new) k d).best (λ name. IsMatched next name)) × IfSome next (IsWithin names t after)
+more_taken_in names t after runs i old new best next are done within low level is taken one first second = (
   runs_set names t after runs i new old are low level is,
   λ k d inside. elim (cases_eq k i) [
-    | inl same ↦ subst (λ (r : Run). IsSettled names after r × IfSome r.best (λ name. IsMatched next name)) (sym (at_index runs i k new d (omega (arith, low, are.count)) same)) (settled, second)
-    | inr other ↦ subst (λ (r : Run). IsSettled names after r × IfSome r.best (λ name. IsMatched next name)) (sym (get_or-set_other runs i k new d other))
+    | inl same ↦ subst (λ (r : Run). HasTakenIn names after r × IfSome r.best (λ name. IsMatched next name)) (sym (at_index runs i k new d (omega (arith, low, are.count)) same)) (taken, second)
+    | inr other ↦ subst (λ (r : Run). HasTakenIn names after r × IfSome r.best (λ name. IsMatched next name)) (sym (get_or-set_other runs i k new d other))
         (let before = done k d (omega (arith, inside, other)) in (before.0, all_further (get_or runs k d).best best next first before.1))
   ],
   chosen_within (IsWithin names t after) best new.best next one within is.best,

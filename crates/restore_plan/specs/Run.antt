@@ -20,8 +20,8 @@ pub record IsRun (names : List FileName) (t after : ℕ) (run : Run) : Type 0 wh
   pub best : IfSome run.best (IsWithin names t after)
   pub taken : (k : ℕ) (d : FileName) → k < run.at → k < length names → (slice_index_or names k d).level ≡ run.level → (slice_index_or names k d).max ≤ t → IsMatched run.best (slice_index_or names k d)
 
--- no other name of this level begins so early
-pub record IsSettled (names : List FileName) (after : ℕ) (run : Run) : Type 0 where
+-- each name of this level that begins so early was taken in: no other does
+pub record HasTakenIn (names : List FileName) (after : ℕ) (run : Run) : Type 0 where
   pub later : (k : ℕ) (d : FileName) → run.at ≤ k → k < length names → (slice_index_or names k d).level ≡ run.level → after + 1 < (slice_index_or names k d).min
 
 -- the levels of files

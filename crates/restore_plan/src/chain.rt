@@ -1,7 +1,8 @@
 //! The files that a restore applies.
 
-ghost use Rattle.std.specs.Prelude.{◌≡◌, ℕ, IfOk, IsErrOf};
-ghost use Rattle.replica_store.specs.Chain.{IsListOrdered, IsChain, IsRetained};
+ghost use Rattle.std.specs.Prelude.{◌≡◌, ◌≤◌, ℕ, List, length, IfOk, IsErrOf};
+ghost use Rattle.replica_store.specs.declared.file_name.FileName.{FileName};
+ghost use Rattle.replica_store.specs.Chain.{IsListOrdered, IsChain, IsRetained, BeginsOnce};
 ghost use Rattle.restore_plan.specs.ChosenChain.{IsChosenChain};
 ghost use Rattle.restore_plan.specs.Retained.{IsGreatestRetainedBelow};
 ghost use Rattle.restore_plan.specs.declared.chain.PlanFault.TheVariants.{Memory};
@@ -33,12 +34,15 @@ impl From<ls_base::Memory> for PlanFault {
 }
 
 /// The files that lead to the transaction: at each step, of those that may come next and don't end beyond it,
-/// the one that reaches furthest, of these one of the highest level, of these the one that begins last. The
-/// names stand in list order. `MissingRange` exactly where no chain leads there, `Memory` for want of it.
+/// the one that reaches furthest, of these one of the highest level, of these the one that begins last. No chain
+/// to the transaction has fewer files, and only the first of them begins with the first transaction. The names
+/// stand in list order. `MissingRange` exactly where no chain leads there, `Memory` for want of it.
 pub fn plan(alloc: Global, names: &[FileName], t: Txid) -> Result<FileNames, PlanFault>
     requires in_order { IsListOrdered names.now }
     ensures chosen { IfOk result (λ chain. IsChosenChain names.now t chain) }
     ensures chain { IfOk result (λ chain. IsChain names.now t chain) }
+    ensures once { IfOk result BeginsOnce }
+    ensures fewest { IfOk result (λ chain. (other : List FileName) → IsChain names.now t other → length chain ≤ length other) }
     ensures missing { (after : ℕ) → IsErrOf result (PlanFault.MissingRange after) → IsRetained names.now t → ⊥ }
     ensures after { (after : ℕ) → IsErrOf result (PlanFault.MissingRange after) → IsGreatestRetainedBelow names.now t after }
 {

@@ -3,7 +3,7 @@
 ghost use Rattle.std.specs.Prelude.{◌≡◌, ◌+◌, ◌<◌, ◌↔◌, ◌⊎◌, ℕ, List, IsTrue};
 ghost use Rattle.replica_store.specs.declared.file_name.FileName.{FileName};
 ghost use Rattle.replica_store.specs.Chain.{IsListOrdered};
-ghost use Rattle.restore_plan.specs.Run.{IsRun, IsSettled};
+ghost use Rattle.restore_plan.specs.Run.{IsRun, HasTakenIn};
 
 use crate::choice::better;
 use crate::listing::Listing;
@@ -37,7 +37,7 @@ impl Run {
         requires run { IsRun names.now t after self.old }
         ensures level { self.new.level ≡ self.old.level }
         ensures run { IsRun names.now t after self.new }
-        ensures settled { IsSettled names.now after self.new }
+        ensures taken_in { HasTakenIn names.now after self.new }
     {
         while self.at < names.len() {
             let Some(name) = names.get(self.at) else {

@@ -7,7 +7,7 @@ ghost use Rattle.replica_store.specs.declared.file_name.FileName.{FileName};
 ghost use Rattle.replica_store.specs.Chain.{IsListOrdered};
 ghost use Rattle.restore_plan.specs.ChosenChain.{MayLead, IsBestNext};
 ghost use Rattle.restore_plan.specs.Progress.{stepped};
-ghost use Rattle.restore_plan.specs.Run.{AreRuns, IsSettled, IsWithin, IsMatched};
+ghost use Rattle.restore_plan.specs.Run.{AreRuns, HasTakenIn, IsWithin, IsMatched};
 ghost use Rattle.restore_plan.specs.declared.run.Run.{Run};
 
 use crate::choice::better;

@@ -1,9 +1,10 @@
-use Rattle.std.proofs.Common.{◌≡◌, ◌++◌, ◌∷◌, [], ◌∙◌, sym, ap, subst}
+use Rattle.std.proofs.Common.{◌≡◌, ℕ, List, ◌++◌, ◌∷◌, [], ◌∙◌, sym, ap, subst}
+use Rattle.replica_store.specs.declared.file_name.FileName.{FileName}
 use Rattle.replica_store.specs.Chain.{LeadsTo}
 use Rattle.restore_plan.specs.Retained.{IsGreatestRetainedBelow}
 use Rattle.restore_plan.specs.ChosenChain.{IsChosenBetween}
 use Rattle.restore_plan.specs.Progress.{Progress}
-use Rattle.restore_plan.proofs.ChainLemmas.{go_on, best_of, chosen_more, chosen_leads, come_to_end, below_missing, not_missing}
+use Rattle.restore_plan.proofs.ChainLemmas.{go_on, best_of, chosen_more, chosen_leads, come_to_end, below_missing, not_missing, begins_once, fewest}
 use Rattle.restore_plan.proofs.chain.plan.Goals as goal
 
 pub loop-name-preserved : goal.loop-name-preserved
@@ -34,6 +35,22 @@ returns-then-after-number-clause-after c =
     λ after is.
     let e : c.after-after.result ≡ after = cc in
     subst (λ n. IsGreatestRetainedBelow names t n) (sym c.after-after.ensures ∙ e) (below_missing names t c.step.new.self.after end.1 (λ e. c.if-after-number.true (c.after-after.ensures ∙ e ∙ sym c.number-2.ensures.value)))
+
+pub returns-clause-once : goal.returns-clause-once
+returns-clause-once c =
+    let names = c.args.names.now in
+    let t = c.args.t in
+    let end = come_to_end names t c.loop-name.sweep c.step.new.self c.step.result c.loop-name.invariant.0 c.step.ensures.end c.step.ensures.goes_on c.in_default.not-Some in
+    begins_once names t c.loop-name.chain (subst (λ n. IsChosenBetween names t 0 c.loop-name.chain n)
+    (sym end.0 ∙ sym c.after-after.ensures ∙ c.if-after-number.false ∙ c.number-2.ensures.value) c.loop-name.invariant.1)
+
+pub returns-clause-fewest : goal.returns-clause-fewest
+returns-clause-fewest c =
+    let names = c.args.names.now in
+    let t = c.args.t in
+    let end = come_to_end names t c.loop-name.sweep c.step.new.self c.step.result c.loop-name.invariant.0 c.step.ensures.end c.step.ensures.goes_on c.in_default.not-Some in
+    λ other leads. fewest names t 0 c.loop-name.chain (subst (λ n. IsChosenBetween names t 0 c.loop-name.chain n)
+    (sym end.0 ∙ sym c.after-after.ensures ∙ c.if-after-number.false ∙ c.number-2.ensures.value) c.loop-name.invariant.1) 0 other (omega arith) leads
 
 pub returns-clause-chain : goal.returns-clause-chain
 returns-clause-chain c =

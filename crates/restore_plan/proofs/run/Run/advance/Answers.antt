@@ -2,12 +2,12 @@ use Rattle.std.proofs.Common.{◌≡◌, ◌+◌, refl, sym, subst, arith}
 use Rattle.std.proofs.lemmas.Bool.{false≢true}
 use Rattle.restore_plan.specs.declared.run.Run.{Run}
 use Rattle.restore_plan.specs.Run.{IsRun}
-use Rattle.restore_plan.proofs.RunLemmas.{settled_from, run_taking, run_passing}
+use Rattle.restore_plan.proofs.RunLemmas.{taken_to, run_taking, run_passing}
 use Rattle.restore_plan.proofs.run.Run.advance.Goals as goal
 use Rattle.restore_plan.proofs.run.Run.advance.Goals.{then-name-self+then-number-t, else-name-self, else-name-self-via-then-name-self+else-number-t, else-name-self-via-else-name-self}
 
-pub returns-then-is_before-clause-settled : goal.returns-then-is_before-clause-settled
-returns-then-is_before-clause-settled c = settled_from c.args.names.now c.args.after c.loop-self.self c.in-Some.name c.requires.in_order (sym c.in-Some.ensures) (c.if-is_before.ensures.0 refl)
+pub returns-then-is_before-clause-taken_in : goal.returns-then-is_before-clause-taken_in
+returns-then-is_before-clause-taken_in c = taken_to c.args.names.now c.args.after c.loop-self.self c.in-Some.name c.requires.in_order (sym c.in-Some.ensures) (c.if-is_before.ensures.0 refl)
 
 pub loop-self-preserved : goal.loop-self-preserved
 loop-self-preserved c =
