@@ -2,6 +2,7 @@
 
 ghost use Rattle.std.specs.Prelude.{◌≡◌, OnOk, OnErr, option_copied};
 ghost use Rattle.std.specs.FinMap as map;
+ghost use Rattle.std.specs.List.{slice_get};
 
 use crate::memory::Memory;
 use crate::page::Page;
@@ -53,5 +54,13 @@ impl ChangePages {
         ensures { option_copied result ≡ map.get self.now number }
     {
         self.pages.get(&number)
+    }
+
+    /// The number at this place, counted from 0, of the numbers in rising order. `None` exactly past
+    /// the last one.
+    pub fn number_at(&self, at: u64) -> Option<u32>
+        ensures { result ≡ slice_get (map.keys self.now) at }
+    {
+        self.pages.keys().nth(at as usize).copied()
     }
 }

@@ -1,4 +1,8 @@
+ghost use Rattle.std.specs.Prelude.{◌≡◌, ◌<◌};
+
 use super::*;
+use std::marker::Brand;
+use std::sync::ledger::{Blank, Ledger};
 use std::test::Fail;
 
 #[test]
@@ -56,4 +60,71 @@ fn pages_and_bytes_are_kept(rt: HostRuntime) -> Result<(), Fail> {
     bytes.extend(b"c")?;
     assert_eq!(rt; bytes.as_slice(), b"abc".as_slice());
     Ok(())
+}
+
+#[test]
+fn the_lock_page_holds_byte_2_to_the_30(rt: HostRuntime) -> Result<(), Fail> {
+    for (n, number) in [
+        (512, 2097153),
+        (1024, 1048577),
+        (4096, 262145),
+        (32768, 32769),
+        (65536, 16385),
+    ] {
+        let size = PageSize::from_u32(n).ok_or("a page size")?;
+        assert_eq!(rt; size.lock_page(), number, "at {n}");
+    }
+    Ok(())
+}
+
+#[test]
+fn numbers_are_told_in_rising_order(rt: HostRuntime) -> Result<(), Fail> {
+    let mut list = PageList::new(rt.alloc());
+    assert!(rt; list.is_empty());
+    list.push(3)?;
+    list.push(u32::MAX)?;
+    assert_eq!(rt; list.len(), 2);
+    for (at, number) in [
+        (0, Some(3)),
+        (1, Some(u32::MAX)),
+        (2, None),
+        (u64::MAX, None),
+    ] {
+        assert_eq!(rt; list.get(at), number, "at {at}");
+    }
+    let mut changed = ChangePages::new(rt.alloc());
+    for number in [7, 2, 9, 2] {
+        changed.put(number, Page::copied(rt.alloc(), &[1])?)?;
+    }
+    for (at, number) in [
+        (0, Some(2)),
+        (1, Some(7)),
+        (2, Some(9)),
+        (3, None),
+        (u64::MAX, None),
+    ] {
+        assert_eq!(rt; changed.number_at(at), number, "at {at}");
+    }
+    Ok(())
+}
+
+fn two_steps<L: Ledger>(blank: Blank)
+    requires name { blank.name ≡ L.name }
+    requires parts { blank.parts ≡ L.parts }
+    requires some { 0 < blank.parts }
+{
+    let mut steps = Steps::<L>::new(blank);
+    steps.tick();
+    steps.tick();
+    counted(&steps);
+}
+
+/// Needs that two steps were taken, which the contract of `tick` alone shows.
+fn counted<L: Ledger>(_steps: &Steps<L>)
+    requires { _steps.now ≡ 2 }
+{}
+
+#[test]
+fn steps_are_counted(_rt: HostRuntime) {
+    two_steps::<Brand>(Blank::new(1));
 }
