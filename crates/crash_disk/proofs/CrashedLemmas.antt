@@ -5,10 +5,10 @@ use Rattle.std.proofs.lemmas.List.{take_more, reverse-append}
 use Rattle.std.specs.Option.{option_or}
 use Rattle.crash_disk.specs.declared.event.Event.{Event}
 use Rattle.crash_disk.specs.declared.event.Event.TheVariants.{Placed, Created, Appended, Wrote, Cut, Synced, Renamed, Removed, NamesSynced}
-use Rattle.crash_disk.specs.Files.{file_at}
-use Rattle.crash_disk.specs.FileLaws.{is_name, is_name-same, is_name-other, file_at-beginning, file_at-Placed-here, file_at-Placed-other}
+use Rattle.crash_disk.specs.Files.{file_at, is_name}
+use Rattle.crash_disk.proofs.FileLaws.{is_name-same, is_name-other, file_at-beginning, file_at-Placed-here, file_at-Placed-other}
 use Rattle.crash_disk.specs.Numbers.{number_at}
-use Rattle.crash_disk.specs.NumberLaws.{by_names}
+use Rattle.crash_disk.proofs.NumberLaws.{by_names}
 use Rattle.crash_disk.specs.Images.{ArePlaced}
 use Rattle.crash_disk.specs.Crash.{synced_number_at, takes_names, file_left, name_given, is_given, is_ever_given}
 use Rattle.crash_disk.specs.Crashed.{with_placed, TakesLeft, AreLeft}

@@ -5,7 +5,7 @@ use Rattle.std.specs.Option.{option_or}
 use Rattle.std.proofs.lemmas.List.{reverse-append, length-reverse}
 use Rattle.crash_disk.specs.declared.event.Event.{Event}
 use Rattle.crash_disk.specs.declared.event.Event.TheVariants.{Placed, Created, Appended, Wrote, Cut, Synced, Renamed, Removed, NamesSynced}
-use Rattle.crash_disk.specs.FileLaws.{is_name}
+use Rattle.crash_disk.specs.Files.{is_name}
 use Rattle.crash_disk.specs.FileState.{FileState, synced_file, appended, written, resized}
 use Rattle.crash_disk.specs.Numbers.{number_at, file_of, is_number}
 use Rattle.crash_disk.specs.Crash.{synced_number_at}

@@ -3,7 +3,7 @@ use Rattle.std.proofs.Common.{◌≡◌, List, [], ◌∷◌, Some, None, refl, 
 use Rattle.crash_disk.specs.declared.event.Event.{Event}
 use Rattle.crash_disk.specs.declared.event.Event.TheVariants.{Placed, Created, Appended, Renamed}
 use Rattle.crash_disk.specs.Files.{file_at, with_bytes_at, with_length}
-use Rattle.crash_disk.specs.FileLaws.{file_at-beginning, file_at-Created-here, file_at-Appended-here, file_at-Renamed, file_at-Placed}
+use Rattle.crash_disk.proofs.FileLaws.{file_at-beginning, file_at-Created-here, file_at-Appended-here, file_at-Renamed, file_at-Placed}
 
 -- a file was created under the name 97, appended to twice, and renamed to 98
 abbrev two_pieces : List Event

@@ -10,8 +10,8 @@ use Rattle.std.specs.BTreeMap as tree
 use Rattle.std.specs.Map.{lookup}
 use Rattle.std.specs.FinMap.{get, insert, remove, empty, find, get-empty, get-insert, get-remove, get_tied, get-from_entries, same_map, nat_cmp-IsAntisymmetric, slice_cmp-IsAntisymmetric}
 use Rattle.std.proofs.lemmas.Map.Text.{is_eq-slice_cmp, btree_map_updates_text}
-use Rattle.crash_disk.specs.Files.{Files, changed, moved}
-use Rattle.crash_disk.specs.FileLaws.{is_name, by_name_test, at_name, at_other, get-changed, get-moved}
+use Rattle.crash_disk.specs.Files.{Files, changed, moved, is_name}
+use Rattle.crash_disk.proofs.FileLaws.{by_name_test, at_name, at_other, get-changed, get-moved}
 use Rattle.crash_disk.specs.FileTable.{by_name, IsShort}
 
 -- two maps that have the same file at each name are equal

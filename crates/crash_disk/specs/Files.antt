@@ -1,7 +1,7 @@
 -- The files as they read, by the record of changes.
-use Rattle.std.specs.Prelude.{◌≡◌, ℕ, ◌+◌, ◌-◌, min, List, [], ◌∷◌, ◌++◌, length, take, drop, replicate, Option, Some, None, option_map, unwrap_or, IsSome}
+use Rattle.std.specs.Prelude.{◌≡◌, ℕ, ◌+◌, ◌-◌, min, Bool, List, [], ◌∷◌, ◌++◌, length, take, drop, replicate, Option, Some, None, option_map, unwrap_or, IsSome}
 use Rattle.std.specs.List.Sorted.{IsPermutation}
-use Rattle.std.specs.Ordering.{nat_cmp}
+use Rattle.std.specs.Ordering.{nat_cmp, eq_by_cmp}
 use Rattle.std.specs.Cmp.Lexicographic.{slice_cmp}
 use Rattle.std.specs.FinMap.{FinMap, get, insert, remove, empty, keys}
 use Rattle.crash_disk.specs.declared.event.Event.{Event}
@@ -10,6 +10,10 @@ use Rattle.crash_disk.specs.declared.event.Event.TheVariants.{Placed, Created, A
 -- files by name; names and contents are lists of bytes
 abbrev pub Files : Type 0
 Files = FinMap (slice_cmp nat_cmp) (List ℕ)
+
+-- the test of two names for being the same
+abbrev pub is_name : List ℕ → List ℕ → Bool
+is_name q name = eq_by_cmp (slice_cmp nat_cmp) q name
 
 -- the bytes with these written from the offset on; zeros fill a gap
 abbrev pub with_bytes_at : ℕ → List ℕ → List ℕ → List ℕ

@@ -3,7 +3,7 @@ use Rattle.std.specs.Prelude.{ℕ, Bool, false, if◌then◌else◌, ◌||◌, �
 use Rattle.std.specs.Option.{option_or}
 use Rattle.crash_disk.specs.declared.event.Event.{Event}
 use Rattle.crash_disk.specs.declared.event.Event.TheVariants.{Placed, Created, Appended, Wrote, Cut, Synced, Renamed, Removed, NamesSynced}
-use Rattle.crash_disk.specs.FileLaws.{is_name}
+use Rattle.crash_disk.specs.Files.{is_name}
 use Rattle.crash_disk.specs.FileState.{FileState, synced_file, appended, written, resized}
 
 -- the number of the file at the name, if there is one

@@ -1,9 +1,10 @@
 //! A disk in memory.
 
-ghost use Rattle.std.specs.Prelude.{◌≡◌, ◌≢◌, ◌<◌, ◌≤◌, ◌+◌, ◌-◌, ◌^◌, ◌++◌, ℕ, List, [], ◌∷◌, Option, Some, None, length, min, take, drop, IfOk, IfSome, IsErrOf, OnOk, OnErr};
+ghost use Rattle.std.specs.Prelude.{◌≡◌, ◌≢◌, ◌<◌, ◌≤◌, ◌+◌, ◌-◌, ◌^◌, ◌++◌, ℕ, List, [], ◌∷◌, Option, Some, None, length, min, take, drop, IfOk, IfSome, IsErrOf, OnOk, OnErr, refl};
 ghost use Rattle.crash_disk.specs.declared.event.Event.TheVariants.{Placed, Created, Appended, Wrote, Cut, Synced, Renamed, Removed, NamesSynced};
-ghost use Rattle.crash_disk.specs.Fault.{HasCause, NamesHasCause};
-ghost use Rattle.crash_disk.specs.Told.{gains, IfTold, GainsOrNot, GainsPrefixOrNot, GainsBytesOrNot};
+ghost use Rattle.ls_base.specs.Fault.{HasCause};
+ghost use Rattle.crash_disk.specs.Fault.{NamesHasCause};
+ghost use Rattle.crash_disk.specs.Told.{gains, Keeps, IfTold, GainsOrNot, GainsPrefixOrNot, GainsBytesOrNot};
 ghost use Rattle.crash_disk.specs.Files.{files_after, file_at, size_of, IsThere, IsReadOf, AreNamesOf};
 ghost use Rattle.crash_disk.specs.Images.{IsCrashImage, ArePlaced};
 ghost use Rattle.crash_disk.specs.Crash.{file_left};
@@ -29,6 +30,7 @@ use std::marker::Model;
 pub struct MemDisk {
     files: Folder,
     path: Option<Bytes>,
+    given: u64,
     plan: CallPlan,
 }
 
@@ -37,18 +39,19 @@ impl Model for MemDisk {
 
     ghost Value = { DiskState };
 
-    ghost view = { λ d. record { events = d.files; folder = d.path; plan = d.plan } };
+    ghost view = { λ d. record { events = d.files; folder = d.path; given = d.given; plan = d.plan } };
 }
 
 impl MemDisk {
     /// An empty disk that is attached to no folder. Nothing is counted, and no call is to fail. Takes no
     /// memory.
     pub fn new(alloc: Global) -> MemDisk
-        ensures { result ≡ record { events = []; folder = None; plan = unused } }
+        ensures { result ≡ record { events = []; folder = None; given = 0; plan = unused } }
     {
         MemDisk {
             files: Folder::new(alloc),
             path: None,
+            given: 0,
             plan: CallPlan::new(alloc),
         }
     }
@@ -90,6 +93,7 @@ impl MemDisk {
         ensures left { OnOk result ((name : List ℕ) → file_at self.new.events name ≡ file_left choice self.old.events name) }
         ensures synced { OnOk result (ArePlaced self.new.events) }
         ensures same_folder { self.new.folder ≡ self.old.folder }
+        ensures same_given { self.new.given ≡ self.old.given }
         ensures plan { OnOk result (self.new.plan ≡ record self.old.plan { stop = None }) }
         ensures err { OnErr result (self.new ≡ self.old) }
     {
@@ -134,10 +138,15 @@ impl Disk for MemDisk {
 
     ghost fault_count = { λ d. d.plan.faults };
 
+    ghost content = { λ d _. Some d.events };
+
+    ghost given = { λ d. Some d.given };
+
     fn attach(&mut self, alloc: Global, path: &str) -> Result<(), NamesFault>
         ensures ok { OnOk result (self.new.folder ≡ Some path.now) }
         ensures err { OnErr result (self.new.folder ≡ self.old.folder) }
         ensures unchanged { self.new.events ≡ self.old.events }
+        ensures given { self.new.given ≡ self.old.given }
         ensures plan { AnswersMemory self.old.plan self.new.plan result }
         ensures cause { NamesHasCause self.old.plan.faults self.new.plan.faults result }
     {
@@ -149,7 +158,7 @@ impl Disk for MemDisk {
     fn names(&mut self, alloc: Global) -> Result<NameList, NamesFault>
         ensures value { IfOk result (λ names. AreNamesOf self.old.events names) }
         ensures unchanged { self.new.events ≡ self.old.events }
-        ensures same_folder { self.new.folder ≡ self.old.folder }
+        ensures keeps { Keeps self.old.folder self.new.folder (Some self.old.given) (Some self.new.given) }
         ensures plan { AnswersMemory self.old.plan self.new.plan result }
         ensures cause { NamesHasCause self.old.plan.faults self.new.plan.faults result }
     {
@@ -164,7 +173,7 @@ impl Disk for MemDisk {
         ensures value { IfOk result (λ size. size ≡ size_of self.old.events name.now) }
         ensures bound { IfOk result (λ size. IfSome size (λ n. n < 2 ^ 63)) }
         ensures unchanged { self.new.events ≡ self.old.events }
-        ensures same_folder { self.new.folder ≡ self.old.folder }
+        ensures keeps { Keeps self.old.folder self.new.folder (Some self.old.given) (Some self.new.given) }
         ensures plan { FailsByPlan self.old.plan self.new.plan result }
         ensures cause { HasCause self.old.plan.faults self.new.plan.faults result }
     {
@@ -180,20 +189,24 @@ impl Disk for MemDisk {
         ensures bound { IfOk result (λ n. n ≤ length into.old) }
         ensures unchanged { self.new.events ≡ self.old.events }
         ensures same_folder { self.new.folder ≡ self.old.folder }
+        ensures gave { IfOk result (λ n. self.new.given ≡ min (self.old.given + n) (2 ^ 64 - 1)) }
+        ensures gave_none { OnErr result (self.new.given ≡ self.old.given) }
         ensures plan { FailsByPlan self.old.plan self.new.plan result }
         ensures cause { HasCause self.old.plan.faults self.new.plan.faults result }
     {
         self.begin()?;
-        match self.files.get(name) {
-            Some(bytes) => Ok(read_from(bytes, at, into)),
-            None => Ok(0),
-        }
+        let count = match self.files.get(name) {
+            Some(bytes) => read_from(bytes, at, into),
+            None => 0,
+        };
+        self.given = self.given.saturating_add(count as u64);
+        Ok(count)
     }
 
     fn create(&mut self, name: &str) -> Result<(), DiskFault>
         ensures ok { OnOk result (self.new.events ≡ Created name.now ∷ self.old.events) }
         ensures err { OnErr result (self.new.events ≡ self.old.events) }
-        ensures same_folder { self.new.folder ≡ self.old.folder }
+        ensures keeps { Keeps self.old.folder self.new.folder (Some self.old.given) (Some self.new.given) }
         ensures plan { FailsOrStarves self.old.plan self.new.plan result }
         ensures cause { HasCause self.old.plan.faults self.new.plan.faults result }
     {
@@ -208,7 +221,7 @@ impl Disk for MemDisk {
         requires there { IsThere self.old.events name.now }
         ensures ok { OnOk result (self.new.events ≡ Appended name.now bytes.now ∷ self.old.events) }
         ensures err { OnErr result (self.new.events ≡ self.old.events) }
-        ensures same_folder { self.new.folder ≡ self.old.folder }
+        ensures keeps { Keeps self.old.folder self.new.folder (Some self.old.given) (Some self.new.given) }
         ensures plan { FailsOrStarves self.old.plan self.new.plan result }
         ensures cause { HasCause self.old.plan.faults self.new.plan.faults result }
     {
@@ -223,7 +236,7 @@ impl Disk for MemDisk {
         requires there { IsThere self.old.events name.now }
         ensures ok { OnOk result (self.new.events ≡ Wrote name.now at bytes.now ∷ self.old.events) }
         ensures err { OnErr result (self.new.events ≡ self.old.events) }
-        ensures same_folder { self.new.folder ≡ self.old.folder }
+        ensures keeps { Keeps self.old.folder self.new.folder (Some self.old.given) (Some self.new.given) }
         ensures plan { FailsOrStarves self.old.plan self.new.plan result }
         ensures cause { HasCause self.old.plan.faults self.new.plan.faults result }
     {
@@ -238,7 +251,7 @@ impl Disk for MemDisk {
         requires there { IsThere self.old.events name.now }
         ensures ok { OnOk result (self.new.events ≡ Cut name.now size ∷ self.old.events) }
         ensures err { OnErr result (self.new.events ≡ self.old.events) }
-        ensures same_folder { self.new.folder ≡ self.old.folder }
+        ensures keeps { Keeps self.old.folder self.new.folder (Some self.old.given) (Some self.new.given) }
         ensures plan { FailsOrStarves self.old.plan self.new.plan result }
         ensures cause { HasCause self.old.plan.faults self.new.plan.faults result }
     {
@@ -253,7 +266,7 @@ impl Disk for MemDisk {
         requires there { IsThere self.old.events name.now }
         ensures ok { OnOk result (self.new.events ≡ Synced name.now ∷ self.old.events) }
         ensures err { OnErr result (self.new.events ≡ self.old.events) }
-        ensures same_folder { self.new.folder ≡ self.old.folder }
+        ensures keeps { Keeps self.old.folder self.new.folder (Some self.old.given) (Some self.new.given) }
         ensures plan { FailsOrStarves self.old.plan self.new.plan result }
         ensures cause { HasCause self.old.plan.faults self.new.plan.faults result }
     {
@@ -269,7 +282,7 @@ impl Disk for MemDisk {
         requires apart { from.now ≢ to.now }
         ensures ok { OnOk result (self.new.events ≡ Renamed from.now to.now ∷ self.old.events) }
         ensures err { OnErr result (self.new.events ≡ self.old.events) }
-        ensures same_folder { self.new.folder ≡ self.old.folder }
+        ensures keeps { Keeps self.old.folder self.new.folder (Some self.old.given) (Some self.new.given) }
         ensures plan { FailsOrStarves self.old.plan self.new.plan result }
         ensures cause { HasCause self.old.plan.faults self.new.plan.faults result }
     {
@@ -283,7 +296,7 @@ impl Disk for MemDisk {
     fn remove(&mut self, name: &str) -> Result<(), DiskFault>
         ensures ok { OnOk result (self.new.events ≡ Removed name.now ∷ self.old.events) }
         ensures err { OnErr result (self.new.events ≡ self.old.events) }
-        ensures same_folder { self.new.folder ≡ self.old.folder }
+        ensures keeps { Keeps self.old.folder self.new.folder (Some self.old.given) (Some self.new.given) }
         ensures plan { FailsOrStarves self.old.plan self.new.plan result }
         ensures cause { HasCause self.old.plan.faults self.new.plan.faults result }
     {
@@ -297,7 +310,7 @@ impl Disk for MemDisk {
     fn sync_names(&mut self) -> Result<(), DiskFault>
         ensures ok { OnOk result (self.new.events ≡ NamesSynced ∷ self.old.events) }
         ensures err { OnErr result (self.new.events ≡ self.old.events) }
-        ensures same_folder { self.new.folder ≡ self.old.folder }
+        ensures keeps { Keeps self.old.folder self.new.folder (Some self.old.given) (Some self.new.given) }
         ensures plan { FailsOrStarves self.old.plan self.new.plan result }
         ensures cause { HasCause self.old.plan.faults self.new.plan.faults result }
     {
@@ -311,6 +324,10 @@ impl Disk for MemDisk {
     fn faults(&self) -> u64 {
         self.plan.faults()
     }
+
+    ghost stands = { λ _ _ _. refl };
+
+    ghost counts = { λ _. refl };
 }
 
 /// Copies the bytes from the offset `at` on into the front of `into`, and answers how many those are.

@@ -1,7 +1,7 @@
 //! An output in memory.
 
 ghost use Rattle.std.specs.Prelude.{◌≡◌, ◌++◌, ◌≤◌, [], ◌∷◌, Some, OnOk, OnErr};
-ghost use Rattle.crash_disk.specs.Fault.{HasCause};
+ghost use Rattle.ls_base.specs.Fault.{HasCause};
 ghost use Rattle.crash_disk.specs.Plan.{unused, FailsOrStarves};
 ghost use Rattle.crash_disk.specs.Memory.{OutState};
 

@@ -1,7 +1,7 @@
 //! The name of a file, and a list of them.
 
 ghost use Rattle.std.specs.Prelude.{◌≡◌, ◌++◌, [], ◌∷◌, length, slice_get, IfOk, OnOk, OnErr, option_copied};
-ghost use Rattle.crash_disk.specs.FileLaws.{is_name};
+ghost use Rattle.crash_disk.specs.Files.{is_name};
 
 use ls_base::Memory;
 use std::alloc::Global;

@@ -1,7 +1,7 @@
 //! The trait of an output.
 
 ghost use Rattle.std.specs.Prelude.{◌≡◌, ◌≤◌, ◌++◌, ℕ, List, Option, Some, take, length, OnOk, OnErr};
-ghost use Rattle.crash_disk.specs.Fault.{HasCause};
+ghost use Rattle.ls_base.specs.Fault.{HasCause};
 ghost use Rattle.crash_disk.specs.Output.{gains_text, GainsFront};
 
 use crate::fault::OutFault;

@@ -1,4 +1,4 @@
-use Rattle.crash_disk.specs.SettledLaws.{all_settled, ArePlaced-settled}
+use Rattle.crash_disk.proofs.SettledLaws.{all_settled, ArePlaced-settled}
 use Rattle.crash_disk.proofs.law.crashed_disk_has_one_image.Goals as goal
 
 pub returns : goal.returns

@@ -1,4 +1,4 @@
-use Rattle.crash_disk.specs.PutTheorem.{put_is_safe}
+use Rattle.crash_disk.proofs.PutTheorem.{put_is_safe}
 use Rattle.crash_disk.proofs.law.put_is_crash_safe.Goals as goal
 
 pub returns : goal.returns

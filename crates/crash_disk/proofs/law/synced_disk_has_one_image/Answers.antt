@@ -1,4 +1,4 @@
-use Rattle.crash_disk.specs.SettledLaws.{all_synced}
+use Rattle.crash_disk.proofs.SettledLaws.{all_synced}
 use Rattle.crash_disk.proofs.law.synced_disk_has_one_image.Goals as goal
 
 pub returns : goal.returns

@@ -1,7 +1,7 @@
 use Rattle.std.proofs.Common.{sym, ap, refl, ◌∙◌, true, false, reverse, Some}
 use Rattle.crash_disk.specs.Numbers.{number_at}
 use Rattle.std.specs.Option.{option_or}
-use Rattle.crash_disk.specs.FileLaws.{is_name}
+use Rattle.crash_disk.specs.Files.{is_name}
 use Rattle.crash_disk.specs.declared.event.Event.TheVariants.{Placed, Created, Renamed, Removed}
 use Rattle.crash_disk.proofs.ReplayLemmas.{newest_last, none_last, no_events, number-Placed, number-Created, number-Removed, number-Renamed, number-kept}
 use Rattle.crash_disk.proofs.replay.+number_at.Goals as goal

@@ -2,7 +2,7 @@ use Rattle.std.proofs.Common.{ap, ◌∙◌}
 use Rattle.crash_disk.specs.Memory.{DiskState}
 use Rattle.crash_disk.specs.Files.{files_after}
 use Rattle.crash_disk.specs.Crash.{file_left}
-use Rattle.crash_disk.specs.CrashFileLaws.{IsCrashImage-left}
+use Rattle.crash_disk.proofs.CrashFileLaws.{IsCrashImage-left}
 use Rattle.crash_disk.proofs.mem_disk.MemDisk.crash.Goals as goal
 
 pub returns-clause-image : goal.returns-clause-image

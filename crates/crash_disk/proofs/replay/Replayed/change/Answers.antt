@@ -1,9 +1,9 @@
 use Rattle.std.proofs.Common.{◌≡◌, ℕ, List, Bool, true, false, eqb, length, reverse, sym, ap, ◌∙◌, ◌++◌, inl, inr}
 use Rattle.crash_disk.specs.declared.event.Event.{Event}
 use Rattle.crash_disk.specs.Numbers.{number_at, file_of, is_number}
-use Rattle.crash_disk.specs.NumberedFiles.{same_test, other_test}
+use Rattle.crash_disk.proofs.NumberedFiles.{same_test, other_test}
 use Rattle.crash_disk.specs.Files.{with_bytes_at, with_length}
-use Rattle.crash_disk.specs.ReadFiles.{emptied}
+use Rattle.crash_disk.proofs.ReadFiles.{emptied}
 use Rattle.crash_disk.proofs.ReplayLemmas.{replayed-Placed, replayed-Created, replayed-Appended, replayed-Wrote, replayed-Cut, replayed-Synced, replayed-kept}
 use Rattle.crash_disk.proofs.replay.Replayed.change.Goals as goal
 

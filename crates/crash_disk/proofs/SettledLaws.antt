@@ -6,13 +6,12 @@ use Rattle.std.specs.Cmp.Lexicographic.{nat_list_cmp_total}
 use Rattle.std.specs.FinMap.{get, same_map, nat_cmp-IsAntisymmetric, slice_cmp-IsAntisymmetric}
 use Rattle.crash_disk.specs.declared.event.Event.{Event}
 use Rattle.crash_disk.specs.declared.event.Event.TheVariants.{Placed, Created, Appended, Wrote, Cut, Synced, Renamed, Removed, NamesSynced}
-use Rattle.crash_disk.specs.Files.{Files, files_after, file_at}
-use Rattle.crash_disk.specs.FileLaws.{is_name}
+use Rattle.crash_disk.specs.Files.{Files, files_after, file_at, is_name}
 use Rattle.crash_disk.specs.FileState.{FileState, SomeOf, IsFileImage, synced_file}
 use Rattle.crash_disk.specs.Numbers.{number_at, numbers_at, file_of, is_number}
-use Rattle.crash_disk.specs.NumberLaws.{on_cond}
-use Rattle.crash_disk.specs.NumberedFiles.{changed_at-here}
-use Rattle.crash_disk.specs.ReadFiles.{bytes_by, file_at-numbered}
+use Rattle.crash_disk.proofs.NumberLaws.{on_cond}
+use Rattle.crash_disk.proofs.NumberedFiles.{changed_at-here}
+use Rattle.crash_disk.proofs.ReadFiles.{bytes_by, file_at-numbered}
 use Rattle.crash_disk.specs.Images.{IsImageOf, MayStandAt, IsCrashImage, IsSettledAt, ArePlaced}
 
 -- an image of a synced file is its bytes

@@ -5,9 +5,9 @@ use Rattle.crash_disk.specs.declared.event.Event.TheVariants.{NamesSynced}
 use Rattle.crash_disk.specs.FileState.{SomeOf, IsFileImage, synced_file}
 use Rattle.crash_disk.specs.Numbers.{numbers_at, file_of}
 use Rattle.crash_disk.specs.Images.{IsImageOf, MayStandAt}
-use Rattle.crash_disk.specs.SettledLaws.{IsFileImage-settled}
-use Rattle.crash_disk.specs.ImageSteps.{SomeOf-weaken, same_image, MayStandAt-NamesSynced}
-use Rattle.crash_disk.specs.PutLaws.{IsDraft, IsNamed}
+use Rattle.crash_disk.proofs.SettledLaws.{IsFileImage-settled}
+use Rattle.crash_disk.proofs.ImageSteps.{SomeOf-weaken, same_image, MayStandAt-NamesSynced}
+use Rattle.crash_disk.proofs.PutLaws.{IsDraft, IsNamed}
 
 -- where the name had the same numbers and none of them is the draft's, a crash may leave what it might have left
 kept_images : (base events : List Event) (number : ℕ) (q : List ℕ) (file : Option (List ℕ)) → numbers_at events q ≡ numbers_at base q → (SomeOf (λ other. other ≡ Some number) (numbers_at base q) → ⊥)

@@ -5,14 +5,14 @@ use Rattle.std.specs.Prelude.{unwrap_or}
 use Rattle.std.specs.Option.{option_or}
 use Rattle.crash_disk.specs.declared.event.Event.{Event}
 use Rattle.crash_disk.specs.declared.event.Event.TheVariants.{Created, Appended, Synced, Renamed}
-use Rattle.crash_disk.specs.FileLaws.{file_at-Created-here}
+use Rattle.crash_disk.proofs.FileLaws.{file_at-Created-here}
 use Rattle.crash_disk.specs.FileState.{FileState, SomeOf, synced_file, appended, resized}
 use Rattle.crash_disk.specs.Numbers.{number_at, numbers_at, file_of}
-use Rattle.crash_disk.specs.NumberLaws.{number_at-Created-here, number_at-Created-other, number_at-Renamed-to, number_at-Renamed-from}
-use Rattle.crash_disk.specs.DistinctNumbers.{same_number}
-use Rattle.crash_disk.specs.NumberedFiles.{changed_at-here, changed_at-other}
-use Rattle.crash_disk.specs.ReadFiles.{bytes_by, file_at-numbered}
-use Rattle.crash_disk.specs.ImageSteps.{numbers_below, numbers_at-Created-other, numbers_at-Renamed-other, numbers_at-Renamed-to}
+use Rattle.crash_disk.proofs.NumberLaws.{number_at-Created-here, number_at-Created-other, number_at-Renamed-to, number_at-Renamed-from}
+use Rattle.crash_disk.proofs.DistinctNumbers.{same_number}
+use Rattle.crash_disk.proofs.NumberedFiles.{changed_at-here, changed_at-other}
+use Rattle.crash_disk.proofs.ReadFiles.{bytes_by, file_at-numbered}
+use Rattle.crash_disk.proofs.ImageSteps.{numbers_below, numbers_at-Created-other, numbers_at-Renamed-other, numbers_at-Renamed-to}
 
 -- Since base a file was begun under the draft name and has these bytes; it is at none of the names that are kept,
 -- and at those nothing changed.

@@ -4,13 +4,14 @@ use Rattle.std.proofs.lemmas.Option.{none-some}
 use Rattle.std.specs.Prelude.{◌||◌}
 use Rattle.crash_disk.specs.declared.event.Event.{Event}
 use Rattle.crash_disk.specs.declared.event.Event.TheVariants.{Placed, Created, Appended, Wrote, Cut, Synced, Renamed, Removed, NamesSynced}
-use Rattle.crash_disk.specs.FileLaws.{is_name, is_name-same, is_name-other, at_other}
+use Rattle.crash_disk.specs.Files.{is_name}
+use Rattle.crash_disk.proofs.FileLaws.{is_name-same, is_name-other, at_other}
 use Rattle.crash_disk.specs.FileState.{SomeOf, IsFileImage}
 use Rattle.crash_disk.specs.Numbers.{number_at, numbers_at, file_of}
-use Rattle.crash_disk.specs.NumberLaws.{number_at-below}
-use Rattle.crash_disk.specs.DistinctNumbers.{same_number}
+use Rattle.crash_disk.proofs.NumberLaws.{number_at-below}
+use Rattle.crash_disk.proofs.DistinctNumbers.{same_number}
 use Rattle.crash_disk.specs.Images.{IsImageOf, MayStandAt}
-use Rattle.crash_disk.specs.ImageLaws.{numbers_at-now}
+use Rattle.crash_disk.proofs.ImageLaws.{numbers_at-now}
 
 -- one of them has P, and each that has P has Q
 pub SomeOf-weaken : {A : Type 0} (P Q : A → Type 0) (xs : List A) → ((x : A) → SomeOf (λ y. y ≡ x) xs → P x → Q x) → SomeOf P xs → SomeOf Q xs

@@ -3,13 +3,12 @@ use Rattle.std.proofs.Common.{ℕ, List, [], ◌∷◌, length, eqb, Bool, true,
 use Rattle.std.specs.Prelude.{◌||◌}
 use Rattle.crash_disk.specs.declared.event.Event.{Event}
 use Rattle.crash_disk.specs.declared.event.Event.TheVariants.{Placed, Created, Appended, Wrote, Cut, Synced, Renamed, Removed, NamesSynced}
-use Rattle.crash_disk.specs.Files.{files_after, file_at}
-use Rattle.crash_disk.specs.FileLaws.{is_name}
+use Rattle.crash_disk.specs.Files.{files_after, file_at, is_name}
 use Rattle.crash_disk.specs.FileState.{FileState, SomeOf, IsFileImage, synced_file, appended, written, resized}
-use Rattle.crash_disk.specs.FileStateLaws.{IsFileImage-synced, IsFileImage-appended, IsFileImage-written, IsFileImage-resized}
+use Rattle.crash_disk.proofs.FileStateLaws.{IsFileImage-synced, IsFileImage-appended, IsFileImage-written, IsFileImage-resized}
 use Rattle.crash_disk.specs.Numbers.{number_at, numbers_at, file_of, is_number}
-use Rattle.crash_disk.specs.NumberLaws.{on_cond}
-use Rattle.crash_disk.specs.ReadFiles.{bytes_by, file_at-numbered}
+use Rattle.crash_disk.proofs.NumberLaws.{on_cond}
+use Rattle.crash_disk.proofs.ReadFiles.{bytes_by, file_at-numbered}
 use Rattle.crash_disk.specs.Images.{IsImageOf, MayStandAt, IsCrashImage}
 
 -- the bytes of a file are one of its images

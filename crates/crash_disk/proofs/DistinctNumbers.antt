@@ -5,9 +5,10 @@ use Rattle.std.specs.Prelude.{unwrap_or}
 use Rattle.std.specs.Option.{option_or}
 use Rattle.crash_disk.specs.declared.event.Event.{Event}
 use Rattle.crash_disk.specs.declared.event.Event.TheVariants.{Placed, Created, Appended, Wrote, Cut, Synced, Renamed, Removed, NamesSynced}
-use Rattle.crash_disk.specs.FileLaws.{is_name, at_name, at_other}
+use Rattle.crash_disk.specs.Files.{is_name}
+use Rattle.crash_disk.proofs.FileLaws.{at_name, at_other}
 use Rattle.crash_disk.specs.Numbers.{number_at}
-use Rattle.crash_disk.specs.NumberLaws.{by_names, number_at-below}
+use Rattle.crash_disk.proofs.NumberLaws.{by_names, number_at-below}
 
 -- no two names have the same number
 abbrev IsDistinct : (List ℕ → Option ℕ) → Type 0

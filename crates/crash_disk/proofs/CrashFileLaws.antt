@@ -4,13 +4,12 @@ use Rattle.std.specs.Prelude.{◌||◌}
 use Rattle.std.specs.FinMap.{get}
 use Rattle.crash_disk.specs.declared.event.Event.{Event}
 use Rattle.crash_disk.specs.declared.event.Event.TheVariants.{Placed, Created, Appended, Wrote, Cut, Synced, Renamed, Removed, NamesSynced}
-use Rattle.crash_disk.specs.Files.{Files}
-use Rattle.crash_disk.specs.FileLaws.{is_name}
+use Rattle.crash_disk.specs.Files.{Files, is_name}
 use Rattle.crash_disk.specs.FileState.{FileState, SomeOf, IsFileImage, synced_file, appended, written, resized}
 use Rattle.crash_disk.specs.Numbers.{number_at, numbers_at, file_of, is_number}
-use Rattle.crash_disk.specs.NumberLaws.{on_cond}
+use Rattle.crash_disk.proofs.NumberLaws.{on_cond}
 use Rattle.crash_disk.specs.Images.{IsImageOf, MayStandAt, IsCrashImage}
-use Rattle.crash_disk.specs.ImageLaws.{numbers_at-now, reads_as_image}
+use Rattle.crash_disk.proofs.ImageLaws.{numbers_at-now, reads_as_image}
 use Rattle.crash_disk.specs.Crash.{synced_number_at, takes_names, takes_bytes, file_left}
 
 -- since its last sync the file had the length that it had then

@@ -8,7 +8,8 @@ use Rattle.std.specs.Cmp.Lexicographic.{slice_cmp}
 use Rattle.std.specs.FinMap.{nat_cmp-IsAntisymmetric, slice_cmp-IsAntisymmetric}
 use Rattle.crash_disk.specs.declared.event.Event.{Event}
 use Rattle.crash_disk.specs.declared.event.Event.TheVariants.{Placed, Created, Appended, Wrote, Cut, Synced, Renamed, Removed, NamesSynced}
-use Rattle.crash_disk.specs.FileLaws.{is_name, is_name-same, at_name, at_other}
+use Rattle.crash_disk.specs.Files.{is_name}
+use Rattle.crash_disk.proofs.FileLaws.{is_name-same, at_name, at_other}
 use Rattle.crash_disk.specs.Numbers.{number_at}
 
 apart_by : (q name : List ℕ) → is_name q name ≡ false → q ≢ name

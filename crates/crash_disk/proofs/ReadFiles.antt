@@ -4,14 +4,14 @@ use Rattle.std.specs.Prelude.{unwrap_or}
 use Rattle.std.specs.Option.{option_or}
 use Rattle.crash_disk.specs.declared.event.Event.{Event}
 use Rattle.crash_disk.specs.declared.event.Event.TheVariants.{Placed, Created, Appended, Wrote, Cut, Synced, Renamed, Removed, NamesSynced}
-use Rattle.crash_disk.specs.Files.{file_at, with_bytes_at, with_length}
-use Rattle.crash_disk.specs.FileLaws as reads
-use Rattle.crash_disk.specs.FileLaws.{is_name, at_name, at_other}
+use Rattle.crash_disk.specs.Files.{file_at, with_bytes_at, with_length, is_name}
+use Rattle.crash_disk.proofs.FileLaws as reads
+use Rattle.crash_disk.proofs.FileLaws.{at_name, at_other}
 use Rattle.crash_disk.specs.FileState.{FileState, synced_file, appended, written, resized}
 use Rattle.crash_disk.specs.Numbers.{number_at, file_of, changed_at}
-use Rattle.crash_disk.specs.NumberLaws.{by_names}
-use Rattle.crash_disk.specs.DistinctNumbers.{number_at-distinct, next_unused}
-use Rattle.crash_disk.specs.NumberedFiles.{same_test, other_test, changed_at-here, changed_at-other, file_of-unused}
+use Rattle.crash_disk.proofs.NumberLaws.{by_names}
+use Rattle.crash_disk.proofs.DistinctNumbers.{number_at-distinct, next_unused}
+use Rattle.crash_disk.proofs.NumberedFiles.{same_test, other_test, changed_at-here, changed_at-other, file_of-unused}
 
 -- the bytes of the file of this number, if there is one
 abbrev pub bytes_by : (ℕ → FileState) → Option ℕ → Option (List ℕ)

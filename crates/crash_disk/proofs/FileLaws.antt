@@ -7,11 +7,7 @@ use Rattle.std.specs.Cmp.Lexicographic.{slice_cmp, nat_list_cmp_total}
 use Rattle.std.specs.FinMap.{get, remove, get-empty, get-insert, get-remove, get_tied, nat_cmp-IsAntisymmetric, slice_cmp-IsAntisymmetric}
 use Rattle.crash_disk.specs.declared.event.Event.{Event}
 use Rattle.crash_disk.specs.declared.event.Event.TheVariants.{Placed, Created, Appended, Wrote, Cut, Synced, Renamed, Removed, NamesSynced}
-use Rattle.crash_disk.specs.Files.{Files, changed, moved, files_after, file_at, with_bytes_at, with_length, IsThere}
-
--- the test of two names for being the same
-abbrev pub is_name : List ℕ → List ℕ → Bool
-is_name q name = eq_by_cmp (slice_cmp nat_cmp) q name
+use Rattle.crash_disk.specs.Files.{Files, is_name, changed, moved, files_after, file_at, with_bytes_at, with_length, IsThere}
 
 -- a name is itself
 pub is_name-same : (name : List ℕ) → is_name name name ≡ true

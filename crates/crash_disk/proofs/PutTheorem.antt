@@ -5,17 +5,17 @@ use Rattle.std.specs.FinMap.{get, insert, remove, get-insert, get-remove}
 use Rattle.std.specs.Cmp.Lexicographic.{nat_list_cmp_total}
 use Rattle.crash_disk.specs.declared.event.Event.{Event}
 use Rattle.crash_disk.specs.declared.event.Event.TheVariants.{Created, Appended, Synced, Renamed, NamesSynced}
-use Rattle.crash_disk.specs.Files.{Files, files_after}
-use Rattle.crash_disk.specs.FileLaws.{is_name, at_name, at_other}
+use Rattle.crash_disk.specs.Files.{Files, files_after, is_name}
+use Rattle.crash_disk.proofs.FileLaws.{at_name, at_other}
 use Rattle.crash_disk.specs.FileState.{SomeOf}
 use Rattle.crash_disk.specs.Numbers.{numbers_at, file_of}
-use Rattle.crash_disk.specs.NumberLaws.{by_names}
+use Rattle.crash_disk.proofs.NumberLaws.{by_names}
 use Rattle.crash_disk.specs.Images.{IsImageOf, MayStandAt, IsCrashImage, WasCrashImageSince}
-use Rattle.crash_disk.specs.ImageLaws.{image_of_number, MayStandAt-reads}
-use Rattle.crash_disk.specs.ImageSteps.{SomeOf-weaken}
-use Rattle.crash_disk.specs.Moments.{since_more, since_start}
-use Rattle.crash_disk.specs.PutLaws.{IsDraft, IsWhole, IsNamed, draft_number, IsDraft-Created, IsDraft-Appended, IsWhole-Synced, IsNamed-Renamed}
-use Rattle.crash_disk.specs.PutImages.{draft_images, named_images, put_images}
+use Rattle.crash_disk.proofs.ImageLaws.{image_of_number, MayStandAt-reads}
+use Rattle.crash_disk.proofs.ImageSteps.{SomeOf-weaken}
+use Rattle.crash_disk.proofs.Moments.{since_more, since_start}
+use Rattle.crash_disk.proofs.PutLaws.{IsDraft, IsWhole, IsNamed, draft_number, IsDraft-Created, IsDraft-Appended, IsWhole-Synced, IsNamed-Renamed}
+use Rattle.crash_disk.proofs.PutImages.{draft_images, named_images, put_images}
 use Rattle.crash_disk.specs.CrashLaws.{joined, drafted, put}
 
 -- the files as they read, but for one name

@@ -4,7 +4,7 @@ use Rattle.crash_disk.specs.declared.event.Event.{Event}
 use Rattle.crash_disk.specs.declared.event.Event.TheVariants.{Placed, Created, Appended, Wrote, Cut, Synced, Renamed, Removed, NamesSynced}
 use Rattle.crash_disk.specs.FileState.{FileState, synced_file, appended, written, resized}
 use Rattle.crash_disk.specs.Numbers.{number_at, file_of, is_number, changed_at}
-use Rattle.crash_disk.specs.NumberLaws.{number_at-below}
+use Rattle.crash_disk.proofs.NumberLaws.{number_at-below}
 
 pub same_test : (n : ℕ) → eqb n n ≡ true
 same_test n = grind arith
