@@ -10,14 +10,16 @@ use Rattle.ltx_format.specs.declared.fault.LtxFault.TheVariants.{Short, BadOrder
 use Rattle.ltx_format.specs.LtxFormat.{page_block}
 use Rattle.ltx_format.specs.Reading.{number_at, flags_from, where_true, block_at, last_at, page_at, blocks_at}
 use Rattle.ltx_format.proofs.StepLemmas.{bind_then, where_true-ok, same_ok}
-use Rattle.ltx_format.proofs.FieldLaws.{AreBytes, AreBytes-drop, BeginsWith, BeginsWith-then, numbers16, numbers32, number-read, number-again, flags-read, flags-again}
+use Rattle.ltx_format.proofs.FieldLaws.{AreBytes, AreBytes-drop, AreBytes-take, BeginsWith, BeginsWith-then, numbers16, numbers32, number-read, number-again, flags-read, flags-again}
 use Rattle.ltx_format.proofs.BlockLoop.{Blocks}
 
--- the page of a block: its number is above the last and at most the commit, and it has the page size
+-- the page of a block: its number is above the last and at most the commit, and it is as many bytes as the
+-- page size
 pub record IsNext (size commit last : ℕ) (block : ℕ × List ℕ) : Type 0 where
   pub above : last < block.0
   pub at_most : block.0 ≤ commit
   pub sized : length block.1 ≡ size
+  pub small : AreBytes block.1
 
 -- blocks whose numbers rise from above the last one to at most the commit
 abbrev pub AreBlocks : ℕ → ℕ → ℕ → Blocks → Type 0
@@ -57,7 +59,7 @@ page-read size commit last number bytes x small e =
     let enough : size ≤ length rest = leb-true _ _ long.0 in
     let rest_small : AreBytes rest = subst AreBytes rises.1 small in
     let page : BeginsWith rest (take size rest) (drop size rest) = record { whole = sym (take-append-drop size rest); small = AreBytes-drop size rest rest_small } in
-    let is : IsNext size commit last (number, take size rest) = record { above = ltb-true _ _ order.0; at_most = leb-true _ _ order.1; sized = omega (arith, length-take size rest) } in
+    let is : IsNext size commit last (number, take size rest) = record { above = ltb-true _ _ order.0; at_most = leb-true _ _ order.1; sized = omega (arith, length-take size rest); small = AreBytes-take size rest rest_small } in
     subst (λ (y : List ℕ × List ℕ). BeginsWith bytes y.0 y.1 × IsNext size commit last (number, y.0)) long.1
     (subst (λ (y : List ℕ). BeginsWith y (take size rest) (drop size rest)) (sym rises.1) page, is))
 

@@ -27,6 +27,7 @@ use Rattle.ltx_format.proofs.BlockLaws.{AreBlocks}
 use Rattle.ltx_format.proofs.BlockFaults.{finish, blocks_fault}
 use Rattle.ltx_format.proofs.PageLemmas.{pages-from_blocks}
 use Rattle.ltx_format.proofs.FileLaws.{IsSpelled, file-read}
+use Rattle.ltx_format.proofs.ByteLemmas.{file_are_bytes}
 use Rattle.ltx_format.proofs.Theorems.{file_is_read}
 
 -- ---- what the header says, by offsets
@@ -156,8 +157,13 @@ by_reading : (bytes : List ℕ) (read : Result (LtxHeader × Blocks) LtxFault) �
 by_reading bytes (Ok x) small e none = made_file bytes x (file-read bytes x small e)
 by_reading bytes (Err fault) small e none = absurd cc
 
+pub no_fault : (bytes : List ℕ) (h : LtxHeader) (c : Change) → IsLtxFile bytes h c → first_fault bytes ≡ None
+no_fault bytes h c is =
+    let small = file_are_bytes bytes h c is in
+    sym (file_fault bytes small) ∙ ap fault_of (file_is_read bytes h c small is)
+
 pub files : (bytes : List ℕ) → AreBytes bytes → (first_fault bytes ≡ None) ↔ ((h : LtxHeader) × (c : Change) × IsLtxFile bytes h c)
 files bytes small = (
   λ none. by_reading bytes (file_at bytes) small refl (file_fault bytes small ∙ none),
-  λ file. sym (file_fault bytes small) ∙ ap fault_of (file_is_read bytes file.0 file.1 small file.2),
+  λ file. no_fault bytes file.0 file.1 file.2,
 )

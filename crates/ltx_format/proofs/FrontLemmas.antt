@@ -1,5 +1,5 @@
 -- The header alone, read from the first 100 bytes.
-use Rattle.std.proofs.Common.{◌≡◌, ℕ, List, [], ◌++◌, length, take, Some, Ok, Err, sym, ap, ◌∙◌, length-append, arith, inl, inr, min}
+use Rattle.std.proofs.Common.{◌≡◌, ◌↔◌, ℕ, List, [], ◌++◌, length, take, Some, None, Result, Ok, Err, refl, sym, ap, ◌∙◌, length-append, arith, inl, inr, min}
 use Rattle.std.proofs.lemmas.Bool.{cases_lt}
 use Rattle.std.proofs.lemmas.List.{append-nil, nil_from_length, length-take, take_all}
 use Rattle.ltx_format.specs.declared.fault.LtxFault.{LtxFault}
@@ -45,3 +45,24 @@ module _ (bytes : List ℕ) (n : ℕ) (small : AreBytes bytes) (n_is : n ≡ min
 
   pub fault : (why : LtxFault) → header_at (take n bytes) ≡ Err why → header_fault (take 100 bytes) ≡ Some why
   fault why e = sym (header_fault-is (take 100 bytes)) ∙ ap fault_of (ap header_at (sym front) ∙ e)
+
+-- ---- the laws of headers
+
+pub header_read : (bytes : List ℕ) (h : LtxHeader) → HasHeader bytes h → header_at (take 100 bytes) ≡ Ok (h, [])
+header_read bytes h has = ap header_at (has.spelled ∙ sym (append-nil (header_bytes h))) ∙ header-again h [] has.header
+
+pub same_header : (bytes : List ℕ) (h i : LtxHeader) → HasHeader bytes h → HasHeader bytes i → h ≡ i
+same_header bytes h i has other = ap (λ (x : LtxHeader × List ℕ). x.0) (same_ok (h, []) (i, []) (sym (header_read bytes h has) ∙ header_read bytes i other))
+
+pub no_header_fault : (bytes : List ℕ) (h : LtxHeader) → HasHeader bytes h → header_fault (take 100 bytes) ≡ None
+no_header_fault bytes h has = sym (header_fault-is (take 100 bytes)) ∙ ap fault_of (header_read bytes h has)
+
+some_header : (bytes : List ℕ) (read : Result (LtxHeader × List ℕ) LtxFault) → AreBytes bytes → header_at (take 100 bytes) ≡ read → fault_of read ≡ None → (h : LtxHeader) × HasHeader bytes h
+some_header bytes (Ok x) small e none = (x.0, found bytes (min (length bytes) 100) small refl x.0 x.1 (ap header_at (front_is bytes (min (length bytes) 100) refl) ∙ e))
+some_header bytes (Err fault) small e none = absurd cc
+
+pub headers : (bytes : List ℕ) → AreBytes bytes → (header_fault (take 100 bytes) ≡ None) ↔ ((h : LtxHeader) × HasHeader bytes h)
+headers bytes small = (
+  λ none. some_header bytes (header_at (take 100 bytes)) small refl (header_fault-is (take 100 bytes) ∙ none),
+  λ header. no_header_fault bytes header.0 header.1,
+)

@@ -10,6 +10,7 @@ pub mod HeaderLaws
 pub mod BlockLaws
 pub mod PageLemmas
 pub mod FileLaws
+pub mod ByteLemmas
 pub mod Theorems
 pub mod FileFaults
 pub mod FrontLemmas

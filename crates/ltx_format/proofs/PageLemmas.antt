@@ -7,6 +7,7 @@ use Rattle.std.specs.FinMap.Entries.{below_all}
 use Rattle.std.proofs.lemmas.Bool.{false≢true, cases_Bool, cases_eq, cases_lt, le-ltb, ltb-true, eq-eqb, ne_eqb}
 use Rattle.ltx_format.specs.declared.header.LtxHeader.{LtxHeader}
 use Rattle.ltx_format.specs.LtxFormat.{ArePages}
+use Rattle.ltx_format.proofs.FieldLaws.{AreBytes}
 use Rattle.ltx_format.proofs.BlockLoop.{Blocks}
 use Rattle.ltx_format.proofs.BlockLaws.{AreBlocks}
 
@@ -24,7 +25,7 @@ find_there number block blocks ne =
 
 -- what is found has a number above all that stand before
 abbrev IsFound : ℕ → ℕ → ℕ → ℕ → List ℕ → Type 0
-IsFound size commit last number page = (last < number) × (number ≤ commit) × (length page ≡ size)
+IsFound size commit last number page = (last < number) × (number ≤ commit) × (length page ≡ size) × AreBytes page
 
 abbrev given : List ℕ → Option (List ℕ)
 given page = Some page
@@ -39,11 +40,11 @@ found-from_blocks size commit last (block ∷ blocks) number page are e =
     elim (cases_eq number block.0) [
       | inl same ↦
           let page_is : block.1 ≡ page = same_some block.1 page (sym (find_here number block blocks same) ∙ e) in
-          (omega arith, rw same are.0.at_most, ap length (sym page_is) ∙ are.0.sized)
+          (omega arith, rw same are.0.at_most, ap length (sym page_is) ∙ are.0.sized, subst AreBytes page_is are.0.small)
       | inr ne ↦
           let later = found-from_blocks size commit block.0 blocks number page are.1 (sym (find_there number block blocks ne) ∙ e) in
           let later_above = later.0 in
-          (omega arith, later.1, later.2)
+          (omega arith, later.1, later.2, later.3)
     ]
 
 both_of : (a b : Bool) → T (a && b) → T a × T b
@@ -71,11 +72,11 @@ blocks-from_found size commit last [] sorted each = tt
 blocks-from_found size commit last (block ∷ blocks) sorted each =
     let parts = both_of (below_all nat_cmp block.0 blocks) (is_sorted nat_cmp blocks) sorted in
     let first = each block.0 block.1 (find_here block.0 block blocks refl) in (
-      record { above = first.0; at_most = first.1; sized = first.2 },
+      record { above = first.0; at_most = first.1; sized = first.2; small = first.3 },
       blocks-from_found size commit block.0 blocks parts.1 (λ number page e.
           let above = above_all block.0 blocks number page parts.0 e in
           let found = each number page (find_there number block blocks (λ same. omega arith) ∙ e) in
-          (above, found.1, found.2)),
+          (above, found.1, found.2, found.3)),
     )
 
 -- ---- every page
@@ -127,6 +128,7 @@ whole-count size commit last (block ∷ blocks) sorted are each =
 pub pages-from_blocks : (h : LtxHeader) (m : FinMap nat_cmp (List ℕ)) → AreBlocks h.size h.commit 0 (entries m) → (h.min ≡ 1 → length (entries m) ≡ h.commit) → ArePages h m
 pages-from_blocks h m are count = record {
   sized = λ number page e. (found-from_blocks h.size h.commit 0 (entries m) number page are (sym (get-entries m number) ∙ e)).2;
+  bytes = λ number page e. (found-from_blocks h.size h.commit 0 (entries m) number page are (sym (get-entries m number) ∙ e)).3;
   numbered = λ number some.
       let page = some_page _ (subst IsSome (get-entries m number) some) in
       let found = found-from_blocks h.size h.commit 0 (entries m) number page.0 are page.1 in
@@ -139,7 +141,7 @@ blocks-from_pages h m are =
     let blocks = blocks-from_found h.size h.commit 0 (entries m) (entries_sorted m) (λ number page e.
     let got = get-entries m number ∙ e in
     let numbered = are.numbered number (subst IsSome (sym got) refl) in
-    (numbered.0, numbered.1, are.sized number page got)) in (
+    (numbered.0, numbered.1, are.sized number page got, are.bytes number page got)) in (
       blocks,
       λ from_first.
           let most = few h.size h.commit 0 (entries m) blocks in

@@ -18,6 +18,7 @@ use Rattle.ltx_format.proofs.FieldLaws.{AreBytes, AreBytes-take}
 use Rattle.ltx_format.proofs.BlockLoop.{Blocks}
 use Rattle.ltx_format.proofs.PageLemmas.{pages-from_blocks, blocks-from_pages}
 use Rattle.ltx_format.proofs.FileLaws.{before_sum, file-read, file-again}
+use Rattle.ltx_format.proofs.ByteLemmas.{file_are_bytes}
 
 pub what_is_read : (bytes : List ℕ) (r : Result LtxFile DecodeFault) → AreBytes bytes → ReadsInMemory parts r (file_at bytes) → IfOk r (λ file. IsLtxFile bytes file.header (change_of file))
 what_is_read bytes (Ok file) small reads =
@@ -61,8 +62,9 @@ what_is_spelled bytes r small reads h c is = reads_as r h c is.same_size is.same
 pub same_bytes : (a b : List ℕ) (h : LtxHeader) (c : Change) → IsLtxFile a h c → IsLtxFile b h c → a ≡ b
 same_bytes a b h c is other = is.spelled ∙ sym other.spelled
 
-pub same_value : (bytes : List ℕ) (h i : LtxHeader) (c d : Change) → AreBytes bytes → IsLtxFile bytes h c → IsLtxFile bytes i d → (h ≡ i) × (c ≡ d)
-same_value bytes h i c d small is other =
+pub same_value : (bytes : List ℕ) (h i : LtxHeader) (c d : Change) → IsLtxFile bytes h c → IsLtxFile bytes i d → (h ≡ i) × (c ≡ d)
+same_value bytes h i c d is other =
+    let small = file_are_bytes bytes h c is in
     let same = same_ok (h, entries c.pages) (i, entries d.pages) (sym (file_is_read bytes h c small is) ∙ file_is_read bytes i d small other) in
     let header : h ≡ i = ap (λ (x : LtxHeader × Blocks). x.0) same in (
       header,

@@ -1,5 +1,5 @@
 -- The LTX file of this project's profile, after superfly/ltx. All numbers are big-endian.
-use Rattle.std.specs.Prelude.{◌≡◌, ℕ, ◌+◌, ◌-◌, ◌*◌, ◌^◌, ◌<◌, ◌≤◌, List, ◌++◌, length, take, replicate, codes, bit_or, Result, Some, IsSome, MatchResult}
+use Rattle.std.specs.Prelude.{◌≡◌, ℕ, ◌+◌, ◌-◌, ◌*◌, ◌^◌, ◌<◌, ◌≤◌, List, ◌++◌, length, take, replicate, codes, bit_or, slice_index, Result, Some, IsSome, MatchResult}
 use Rattle.std.specs.List.{flat_map}
 use Rattle.std.specs.Ordering.{nat_cmp}
 use Rattle.std.specs.FinMap.{FinMap, get, entries}
@@ -66,10 +66,11 @@ page_block (number, page) = big_bytes 4 number ++ replicate 2 0 ++ page
 abbrev pub page_blocks : FinMap nat_cmp (List ℕ) → List ℕ
 page_blocks pages = flat_map page_block (entries pages)
 
--- the pages of a file: each has the page size and a number up to the commit, and a file from the first
--- transaction on has every page
+-- the pages of a file: each has the page size, bytes, and a number up to the commit, and a file from the
+-- first transaction on has every page
 pub record ArePages (h : LtxHeader) (pages : FinMap nat_cmp (List ℕ)) : Type 0 where
   pub sized : (number : ℕ) (page : List ℕ) → get pages number ≡ Some page → length page ≡ h.size
+  pub bytes : (number : ℕ) (page : List ℕ) → get pages number ≡ Some page → (k : ℕ) → slice_index page k < 2 ^ 8
   pub numbered : (number : ℕ) → IsSome (get pages number) → (1 ≤ number) × (number ≤ h.commit)
   pub whole : h.min ≡ 1 → (number : ℕ) → 1 ≤ number → number ≤ h.commit → IsSome (get pages number)
 

@@ -30,5 +30,5 @@ pub use fault::{DecodeFault, LtxFault};
 pub use file::LtxFile;
 pub use header::LtxHeader;
 pub use reading::{decode, read_ltx_header};
-pub use spelling::{faultless_files, one_spelling};
+pub use spelling::{faultless_files, faultless_headers, one_header, one_spelling};
 pub use writing::encode;
