@@ -1,6 +1,6 @@
 use crate::{DecodeFault, LtxFault, LtxHeader, decode, encode, read_ltx_header};
 use ls_base::{Bytes, PageSize, Place, Txid};
-use ls_sums::Crc64;
+use ls_sums::{Crc64, Order, WalSum};
 use std::alloc::{AllocError, Global};
 use std::test::*;
 
@@ -11,10 +11,16 @@ const START: [u8; 48] = [
     0, 0, 0, 1, 0, 0, 1, 0x8b, 0xcf, 0xe5, 0x68, 0, 0, 0, 0, 0, 0, 0, 0, 0,
 ];
 
-/// The other 52, of a place in the log: end 1104, salts 1 and 2, sums 3 and 4.
+/// The other 52, of a place in the log: end 1104, salts 1 and 2, and the running sums there.
 const WAL: [u8; 52] = [
     0, 0, 0, 0, 0, 0, 0, 0x20, 0, 0, 0, 0, 0, 0, 4, 0x30, 0, 0, 0, 1, 0, 0, 0, 2, 0, 0, 0, 0, 0, 0,
-    0, 0, 0, 0, 0, 3, 0, 0, 0, 4, 0, 0, 0, 0, 0, 0, 0, 0, 0, 0, 0, 0,
+    0, 0, 0xdf, 0xdb, 0xb9, 0xce, 0xd7, 0xa6, 0x1a, 0xc1, 0, 0, 0, 0, 0, 0, 0, 0, 0, 0, 0, 0,
+];
+
+/// The first 24 bytes of the log's header, which its sums take in: big-endian sums, pages of 512 bytes,
+/// salts 1 and 2.
+const LOG_HEADER: [u8; 24] = [
+    0x37, 0x7f, 0x06, 0x83, 0, 0x2d, 0xe2, 0x18, 0, 0, 2, 0, 0, 0, 0, 0, 0, 0, 0, 1, 0, 0, 0, 2,
 ];
 
 /// The same of a place at rest with sum 2^63.
@@ -25,6 +31,18 @@ const REST: [u8; 52] = [
 
 /// The first 20 bytes of a database of pages of 512 bytes.
 const DATABASE: [u8; 20] = *b"SQLite format 3\0\x02\0\x02\x02";
+
+/// The sums of the log behind its two frames, whose pages are those of `two_pages`.
+fn sums_of_the_log() -> WalSum {
+    let mut sums = WalSum::start().over(Order::Big, &LOG_HEADER);
+    sums = sums.over(Order::Big, &[0, 0, 0, 1, 0, 0, 0, 0]);
+    sums = sums.over(Order::Big, b"SQLite format 3\0\x02\0\x02\x02\0\0\0\0");
+    sums = sums.over(Order::Big, &[0; 72]);
+    sums = sums.over(Order::Big, &[0, 0, 0, 0, 0x11, 0x11, 0x11, 0x11]);
+    sums = sums.over(Order::Big, &[0x11; 408]);
+    sums = sums.over(Order::Big, &[0, 0, 0, 2, 0, 0, 0, 2]);
+    sums.over(Order::Big, &[0x22; 512])
+}
 
 /// The file of two pages but its own sum.
 fn two_pages(alloc: Global, place: &[u8]) -> Result<Vec<u8>, AllocError> {
@@ -54,6 +72,8 @@ fn summed(alloc: Global, bytes: &[u8]) -> Result<Vec<u8>, AllocError> {
 fn a_file_of_a_place_in_the_log(rt: HostRuntime) -> Result<(), Fail> {
     let file = summed(rt.alloc(), &two_pages(rt.alloc(), &WAL)?)?;
     let read = decode(rt.alloc(), &file).ok().ok_or("it is a file")?;
+    let sums = sums_of_the_log();
+    assert_eq!(rt; (sums.s0, sums.s1), (0xdfdb_b9ce, 0xd7a6_1ac1));
     let header = LtxHeader {
         size: PageSize::from_u32(512).ok_or("a page size")?,
         commit: 2,
@@ -64,8 +84,8 @@ fn a_file_of_a_place_in_the_log(rt: HostRuntime) -> Result<(), Fail> {
             salt1: 1,
             salt2: 2,
             end: 1104,
-            s0: 3,
-            s1: 4,
+            s0: sums.s0,
+            s1: sums.s1,
         },
     };
     assert!(rt; read.header == header);
