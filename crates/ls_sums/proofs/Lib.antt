@@ -9,4 +9,5 @@ pub mod SquareLemmas
 pub mod MovedLemmas
 pub mod RingLemmas
 pub mod WindowLemmas
+pub mod PageSumLemmas
 pub mod StandardFacts
