@@ -1,13 +1,12 @@
 -- What a crash leaves where names are settled, or one is dropped.
-use Rattle.std.proofs.Common.{◌≡◌, ◌≢◌, ℕ, ◌≤◌, List, [], ◌∷◌, length, Option, Some, None, refl, sym, subst, ◌∙◌, inl, inr, ⊎_elim, arith}
+use Rattle.std.proofs.Common.{◌≡◌, ℕ, List, ◌∷◌, length, Option, Some, None, refl, sym, subst, inl, inr, ⊎_elim}
 use Rattle.std.specs.Prelude.{◌⊎◌}
 use Rattle.std.specs.FinMap.{get}
 use Rattle.crash_disk.specs.declared.event.Event.{Event}
 use Rattle.crash_disk.specs.declared.event.Event.TheVariants.{Removed, NamesSynced}
-use Rattle.crash_disk.specs.Files.{Files, file_at}
 use Rattle.crash_disk.specs.FileLaws.{at_name, file_at-NamesSynced, file_at-Removed-here, file_at-Removed-other}
 use Rattle.crash_disk.specs.FileState.{SomeOf}
-use Rattle.crash_disk.specs.Images.{IsImageOf, MayStandAt, IsCrashImage, WasCrashImageSince}
+use Rattle.crash_disk.specs.Images.{IsImageOf, MayStandAt}
 use Rattle.crash_disk.specs.ImageSteps.{SomeOf-weaken, same_image, MayStandAt-Removed-other, MayStandAt-NamesSynced}
 use Rattle.crash_disk.specs.Moments.{since_more, since_start}
 use Rattle.crash_disk.specs.NumberLaws.{by_names}
@@ -15,11 +14,11 @@ use Rattle.crash_disk.specs.Numbers.{numbers_at, file_of}
 use Rattle.crash_disk.specs.Told.{Told, gains, GainsOrNot}
 use Rattle.crash_disk.specs.GoesOn.{GoesOn}
 use Rattle.crash_disk.proofs.GoesOnLemmas.{goes_on-gains, goes_on-either}
-use Rattle.replica_store.specs.Putting.{IsSettled, MayDrop, HasDropped}
+use Rattle.replica_store.specs.Putting.{HasSyncedNames, MayDrop, HasDropped}
 use Rattle.replica_store.proofs.SettleLemmas.{leaves_the_names}
 
-pub settled : (old new : Told) → new ≡ gains old NamesSynced → GoesOn old new IsSettled
-settled old new is = goes_on-gains old new NamesSynced IsSettled is (λ events. record {
+pub settled : (old new : Told) → new ≡ gains old NamesSynced → GoesOn old new HasSyncedNames
+settled old new is = goes_on-gains old new NamesSynced HasSyncedNames is (λ events. record {
   files = λ q. file_at-NamesSynced events q;
   at_a_stop = λ image was q. elim (since_more NamesSynced events (length events) image was) [
     | inl now ↦ MayStandAt-NamesSynced events q (get image q) (now.each q)

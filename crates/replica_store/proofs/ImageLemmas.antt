@@ -1,20 +1,22 @@
 -- What a crash at any moment of a put may leave.
 use Rattle.std.proofs.Common.{◌≡◌, ◌≢◌, ℕ, ◌≤◌, List, [], ◌∷◌, ◌++◌, length, Option, Some, None, refl, sym, ap, subst, ◌∙◌, inl, inr, ⊎_elim, arith}
-use Rattle.std.specs.Prelude.{◌⊎◌, ◌↔◌, codes, IsSome}
 use Rattle.std.specs.FinMap.{get}
 use Rattle.crash_disk.specs.declared.event.Event.{Event}
 use Rattle.crash_disk.specs.declared.event.Event.TheVariants.{Created, Appended, Synced, Renamed, Removed, NamesSynced}
-use Rattle.crash_disk.specs.CrashLaws.{joined, drafted}
 use Rattle.crash_disk.specs.Files.{Files, file_at}
-use Rattle.crash_disk.specs.FileLaws.{file_at-Created-here, file_at-Created-other, file_at-Appended-here, file_at-Appended-other, file_at-Removed-other}
+use Rattle.crash_disk.specs.DistinctNumbers.{same_number}
+use Rattle.crash_disk.specs.FileLaws.{file_at-Created-here, file_at-Created-other, file_at-Appended-here, file_at-Appended-other, file_at-Removed-other, file_at-Synced}
+use Rattle.crash_disk.specs.FileState.{FileState, SomeOf}
 use Rattle.crash_disk.specs.Images.{MayStandAt, IsCrashImage, WasCrashImageSince}
 use Rattle.crash_disk.specs.ImageSteps.{MayStandAt-Removed-other, MayStandAt-NamesSynced}
 use Rattle.crash_disk.specs.Moments.{since_now, since_more, since_start}
 use Rattle.crash_disk.specs.NumberLaws.{by_names, number_at-Removed-here}
-use Rattle.crash_disk.specs.PutLaws.{IsDraft, IsWhole, IsNamed, draft_number, IsDraft-fresh, IsDraft-Appended, IsWhole-Synced, IsNamed-Renamed}
+use Rattle.crash_disk.specs.Numbers.{number_at, numbers_at, file_of}
+use Rattle.crash_disk.specs.PutLaws.{IsDraft, IsWhole, IsNamed, IsDraft-fresh, IsDraft-Appended, IsWhole-Synced, IsNamed-Renamed}
 use Rattle.crash_disk.specs.PutImages.{draft_images, named_images, named_images-other, put_images}
 use Rattle.crash_disk.specs.PutTheorem.{image_with}
-use Rattle.replica_store.specs.Putting.{draft_path, KeepsOthers, KeptOrPut}
+use Rattle.crash_disk.specs.ReadFiles.{bytes_by, file_at-numbered}
+use Rattle.replica_store.specs.Putting.{draft_path, IsAlone, IsPutting, KeepsOthers, KeptOrPut}
 
 longer : (path : List ℕ) → length path ≡ length (draft_path path) → ⊥
 longer [] same = absurd (omega (arith, same))
@@ -76,66 +78,96 @@ module _ (path : List ℕ) (base : List Event) where
   abbrev Kept : List ℕ → Type 0
   Kept q = q ≢ draft
 
-  abbrev number : ℕ
-  number = draft_number Kept cleared draft
+  -- a temporary file of its own number
+  alone_of : (events from : List Event) (number : ℕ) (bytes : List ℕ) → IsDraft Kept from events draft number bytes → IsAlone events draft
+  alone_of events from number bytes is = record {
+    apart = λ n here q other there.
+        let same : n ≡ number = same_number n number (sym here ∙ is.here) in
+        is.alone q other (subst (λ (x : ℕ). SomeOf (λ y. y ≡ Some x) (numbers_at from q)) same (subst (SomeOf (λ y. y ≡ Some n)) (is.same_numbers q other) there));
+  }
 
-  abbrev pub written : List (List ℕ) → List Event
-  written pieces = drafted draft pieces cleared
+  -- the temporary file is made anew
+  pub begun : IsPutting path [] base (Created draft ∷ cleared)
+  begun =
+      let fresh = IsDraft-fresh Kept cleared draft (λ q other. other) (number_at-Removed-here base draft) in
+      record {
+        draft = file_at-Created-here cleared draft;
+        alone = alone_of (Created draft ∷ cleared) cleared _ [] fresh;
+        others = others_more (Created draft) cleared (others_removed base others_start) (λ q other. file_at-Created-other cleared draft q other)
+            (λ q file other is. MayStandAt-Removed-other base draft q file other (draft_images Kept cleared (Created draft ∷ cleared) draft _ [] q file other fresh is));
+      }
 
-  pub is_draft : (pieces : List (List ℕ)) → IsDraft Kept cleared (written pieces) draft number (joined pieces)
-  is_draft [] = IsDraft-fresh Kept cleared draft (λ q other. other) (number_at-Removed-here base draft)
-  is_draft (piece ∷ pieces) = IsDraft-Appended Kept cleared draft (written pieces) number (joined pieces) piece (is_draft pieces)
+  has_number : (files : ℕ → FileState) (number : Option ℕ) (bytes : List ℕ) → bytes_by files number ≡ Some bytes → (n : ℕ) × (number ≡ Some n) × ((files n).bytes ≡ bytes)
+  has_number files None bytes e = let no : ◌≡◌ {A = Option (List ℕ)} None (Some bytes) = e in absurd cc
+  has_number files (Some n) bytes e = let same : Some (files n).bytes ≡ Some bytes = e in (n, refl, cc)
 
-  is_whole : (pieces : List (List ℕ)) → IsWhole Kept cleared (Synced draft ∷ written pieces) draft number (joined pieces)
-  is_whole pieces = IsWhole-Synced Kept cleared draft (written pieces) number (joined pieces) (is_draft pieces)
+  module _ (now : List Event) (bytes : List ℕ) (p : IsPutting path bytes base now) where
+    numbered : (n : ℕ) × (number_at now draft ≡ Some n) × ((file_of now n).bytes ≡ bytes)
+    numbered = has_number (file_of now) (number_at now draft) bytes (sym (file_at-numbered now draft) ∙ p.draft)
 
-  pub is_named : (pieces : List (List ℕ)) → IsNamed Kept cleared (Renamed draft path ∷ Synced draft ∷ written pieces) draft path number (joined pieces)
-  is_named pieces = IsNamed-Renamed Kept cleared draft (Synced draft ∷ written pieces) number (joined pieces) path (apart path) (is_whole pieces)
+    abbrev number : ℕ
+    number = numbered.0
 
-  from_cleared : (q : List ℕ) (file : Option (List ℕ)) → q ≢ draft → MayStandAt cleared q file → MayStandAt base q file
-  from_cleared q file other is = MayStandAt-Removed-other base draft q file other is
+    is_draft : IsDraft Kept now now draft number bytes
+    is_draft = record {
+      apart = λ q other. other;
+      here = numbered.1;
+      reads = numbered.2;
+      alone = λ q other there. p.alone.apart number numbered.1 q other there;
+      same_now = λ q other. refl;
+      same_numbers = λ q other. refl;
+      same_files = λ n other. refl;
+    }
 
-  written_stands : (pieces : List (List ℕ)) → Stands draft base Before (written pieces)
-  written_stands pieces q file other is = from_cleared q file other (draft_images Kept cleared (written pieces) draft number (joined pieces) q file other (is_draft pieces) is)
+    -- what may stand beside the temporary file might have stood there before
+    before_put : Stands draft base Before now
+    before_put = stands_of draft base Before now p.others.later p.others.at_a_stop
 
-  -- while the temporary file is written
-  pub others_written : (pieces : List (List ℕ)) → KeepsOthers path base (written pieces)
-  others_written [] = others_more (Created draft) cleared (others_removed base others_start) (λ q other. file_at-Created-other cleared draft q other) (written_stands [])
-  others_written (piece ∷ pieces) =
-      others_more (Appended draft piece) (written pieces) (others_written pieces) (λ q other. file_at-Appended-other (written pieces) draft piece q other) (written_stands (piece ∷ pieces))
+    -- more bytes are put into it
+    pub more_put : (more : List ℕ) → IsPutting path (bytes ++ more) base (Appended draft more ∷ now)
+    more_put more =
+        let grown = IsDraft-Appended Kept now draft now number bytes more is_draft in
+        record {
+          draft = file_at-Appended-here now draft more bytes p.draft;
+          alone = alone_of (Appended draft more ∷ now) now number (bytes ++ more) grown;
+          others = others_more (Appended draft more) now p.others (λ q other. file_at-Appended-other now draft more q other)
+              (λ q file other is. before_put q file other (draft_images Kept now (Appended draft more ∷ now) draft number (bytes ++ more) q file other grown is));
+        }
 
-  pub written_reads : (pieces : List (List ℕ)) → file_at (written pieces) draft ≡ Some (joined pieces)
-  written_reads [] = file_at-Created-here cleared draft
-  written_reads (piece ∷ pieces) = file_at-Appended-here (written pieces) draft piece (joined pieces) (written_reads pieces)
+    abbrev synced : List Event
+    synced = Synced draft ∷ now
 
-  -- and from then on
-  module _ (pieces : List (List ℕ)) where
+    abbrev named : List Event
+    named = Renamed draft path ∷ synced
+
+    is_whole : IsWhole Kept now synced draft number bytes
+    is_whole = IsWhole-Synced Kept now draft now number bytes is_draft
+
+    is_named : IsNamed Kept now named draft path number bytes
+    is_named = IsNamed-Renamed Kept now draft synced number bytes path (apart path) is_whole
+
+    -- it is synced
+    pub others_synced : KeepsOthers path base synced
+    others_synced =
+        others_more (Synced draft) now p.others (λ q other. file_at-Synced now draft q)
+        (λ q file other is. before_put q file other (draft_images Kept now synced draft number bytes q file other is_whole.begun is))
+
+    -- and from then on
     abbrev Put : List ℕ → Option (List ℕ) → Type 0
-    Put q file = KeptOrPut path (joined pieces) base q file
+    Put q file = KeptOrPut path bytes base q file
 
-    pub stood_written : Stood draft base Put (written pieces)
-    stood_written image was q other = inl ((others_written pieces).at_a_stop image was q other)
-
-    pub stood_synced : Stood draft base Put (Synced draft ∷ written pieces)
-    stood_synced =
-        stood_more draft base Put (Synced draft) (written pieces)
-        (λ q file other is. inl (from_cleared q file other (draft_images Kept cleared (Synced draft ∷ written pieces) draft number (joined pieces) q file other (is_whole pieces).begun is))) stood_written
-
-    named_stands : Stands draft base Put (Renamed draft path ∷ Synced draft ∷ written pieces)
+    named_stands : Stands draft base Put named
     named_stands q file other is =
-        let events = Renamed draft path ∷ Synced draft ∷ written pieces in
         by_names q path
-        (λ same. ⊎_elim (λ whole. inr (same, whole)) (λ old. inl (subst (λ x. MayStandAt base x file) (sym same) (from_cleared path file (apart path) old)))
-        (named_images Kept cleared events draft number (joined pieces) path (is_named pieces) file (apart path) (subst (λ x. MayStandAt events x file) same is)))
-        (λ elsewhere. inl (from_cleared q file other (named_images-other Kept cleared events draft number (joined pieces) path (is_named pieces) q file other elsewhere is)))
+        (λ same. ⊎_elim (λ whole. inr (same, whole)) (λ old. inl (subst (λ x. MayStandAt base x file) (sym same) (before_put path file (apart path) old)))
+        (named_images Kept now named draft number bytes path is_named file (apart path) (subst (λ x. MayStandAt named x file) same is)))
+        (λ elsewhere. inl (before_put q file other (named_images-other Kept now named draft number bytes path is_named q file other elsewhere is)))
 
-    pub stood_named : Stood draft base Put (Renamed draft path ∷ Synced draft ∷ written pieces)
-    stood_named = stood_more draft base Put (Renamed draft path) (Synced draft ∷ written pieces) named_stands stood_synced
+    pub stood_named : Stood draft base Put named
+    stood_named = stood_more draft base Put (Renamed draft path) synced named_stands (λ image was q other. inl (others_synced.at_a_stop image was q other))
 
-    pub stood_settled : Stood draft base Put (NamesSynced ∷ Renamed draft path ∷ Synced draft ∷ written pieces)
-    stood_settled =
-        let events = Renamed draft path ∷ Synced draft ∷ written pieces in
-        stood_more draft base Put NamesSynced events (λ q file other is. named_stands q file other (MayStandAt-NamesSynced events q file is)) stood_named
+    pub stood_settled : Stood draft base Put (NamesSynced ∷ named)
+    stood_settled = stood_more draft base Put NamesSynced named (λ q file other is. named_stands q file other (MayStandAt-NamesSynced named q file is)) stood_named
 
-    pub settled_stays : (image : Files) → IsCrashImage (NamesSynced ∷ Renamed draft path ∷ Synced draft ∷ written pieces) image → get image path ≡ Some (joined pieces)
-    settled_stays image crash = put_images Kept cleared (Renamed draft path ∷ Synced draft ∷ written pieces) draft number (joined pieces) path (is_named pieces) (get image path) (crash.each path)
+    pub settled_stays : (image : Files) → IsCrashImage (NamesSynced ∷ named) image → get image path ≡ Some bytes
+    settled_stays image crash = put_images Kept now named draft number bytes path is_named (get image path) (crash.each path)

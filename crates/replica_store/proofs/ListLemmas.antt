@@ -1,22 +1,22 @@
 -- What the list of a replica's files has, by the texts that it was read from.
 use Rattle.std.proofs.Common.{◌≡◌, ◌≢◌, ℕ, suc, ◌+◌, take, List, [], ◌∷◌, ◌++◌, map, Bool, true, false, ◌||◌, ◌&&◌, T, Ordering, Less, Equal, Greater, is_eq, Option, Some, None, refl, sym, ap, subst, ◌∙◌, inl, inr, ⊎_elim, arith}
-use Rattle.std.specs.Prelude.{◌⊎◌, ◌↔◌, IsSome, is_some, slice_get}
-use Rattle.std.specs.List.{Contains, IsDistinct, All, AllByRecursion, list_any}
+use Rattle.std.specs.Prelude.{◌⊎◌, IsSome, is_some, slice_get}
+use Rattle.std.specs.List.{IsDistinct, All, AllByRecursion, list_any}
 use Rattle.std.specs.List.Sorted.{IsPermutation}
-use Rattle.std.specs.FinMap.{FinMap, get, keys, entries, entries_sorted, contains_key, contains_key-keys}
+use Rattle.std.specs.FinMap.{keys, entries, entries_sorted, contains_key-keys}
 use Rattle.std.specs.FinMap.Entries.{is_sorted, below_all}
 use Rattle.std.proofs.lemmas.Cmp.{eq_by_cmp_equiv}
 use Rattle.std.proofs.lemmas.Option.{slice_get_within, get_or_from_slice_get}
 use Rattle.std.proofs.Math.Seq.{take-suc}
-use Rattle.std.specs.Ordering.{nat_cmp, is_lt, eq_by_cmp}
+use Rattle.std.specs.Ordering.{nat_cmp, is_lt}
 use Rattle.std.specs.Cmp.Lexicographic.{slice_cmp, nat_list_cmp_total}
 use Rattle.std.proofs.lemmas.List.Elements.{All-nil, All-cons}
 use Rattle.std.proofs.lemmas.List.Sorted.{IsPermutation-map, list_any-IsPermutation, All-permutation}
-use Rattle.std.proofs.lemmas.Map.Keys.{IsDistinct-IsPermutation, IsDistinct-cons, IsDistinct-head, IsDistinct-tail}
+use Rattle.std.proofs.lemmas.Map.Keys.{IsDistinct-IsPermutation}
 use Rattle.std.proofs.lemmas.Map.Views.{Contains-from_any, list_any-from_Contains}
 use Rattle.crash_disk.specs.declared.event.Event.{Event}
-use Rattle.crash_disk.specs.Files.{files_after, file_at, IsThere, AreNamesOf}
-use Rattle.crash_disk.specs.FileLaws.{is_name, is_name-same, is_name-other}
+use Rattle.crash_disk.specs.Files.{files_after, file_at, AreNamesOf}
+use Rattle.crash_disk.specs.FileLaws.{is_name, is_name-other}
 use Rattle.crash_disk.specs.NumberLaws.{by_names}
 use Rattle.replica_store.specs.declared.file_name.FileName.{FileName}
 use Rattle.replica_store.specs.NameText.{IsName, file_path}
@@ -112,7 +112,7 @@ some_true (Some bytes) e = refl
 texts_there : (events : List Event) (texts : List (List ℕ)) (q : List ℕ) → AreNamesOf events texts → list_any (is_name q) texts ≡ is_some (file_at events q)
 texts_there events texts q are = sym (list_any-IsPermutation (is_name q) (keys (files_after events)) texts are.each) ∙ sym (contains_key-keys (files_after events) q)
 
-pub are_listed : (events : List Event) (texts : List (List ℕ)) (read names : List FileName) → AreNamesOf events texts → AreReadOf texts read → IsPermutation read names → IsListOrdered names → AreListed events names
+pub are_listed : (events : List Event) (texts : List (List ℕ)) (read names : List FileName) → AreNamesOf events texts → AreReadOf texts read → IsPermutation read names → IsListOrdered names → AreListed (files_after events) names
 are_listed events texts read names are reads moved ordered =
     let paths = IsPermutation-map path_of read names moved in
     let any : (q : List ℕ) → list_any (is_name q) (paths_of read) ≡ list_any (is_name q) (paths_of names) = λ q. list_any-IsPermutation (is_name q) (paths_of read) (paths_of names) paths in
@@ -124,10 +124,10 @@ are_listed events texts read names are reads moved ordered =
         λ has.
             let found = any q ∙ list_any-from_Contains (eq_by_cmp_equiv nat_list_cmp_total) q (paths_of names) has in
             let path = read_paths texts read q reads found in
-            (path, record { there = some_true (file_at events q) (sym (texts_there events texts q are) ∙ sym (read_any texts read q reads path) ∙ found) }),
+            (path, some_true (file_at events q) (sym (texts_there events texts q are) ∙ sym (read_any texts read q reads path) ∙ found)),
         λ is.
             Contains-from_any same_name q (paths_of names)
-            (sym (any q) ∙ read_any texts read q reads is.0 ∙ texts_there events texts q are ∙ is.1.there),
+            (sym (any q) ∙ read_any texts read q reads is.0 ∙ texts_there events texts q are ∙ is.1),
       );
     }
 

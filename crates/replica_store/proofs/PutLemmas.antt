@@ -1,44 +1,32 @@
 -- How the calls of a put go on with what it has done.
-use Rattle.std.proofs.Common.{◌≡◌, ◌≢◌, ℕ, ◌≤◌, List, [], ◌∷◌, ◌++◌, length, take, Option, Some, None, refl, sym, ap, subst, ◌∙◌, inl, inr, arith}
-use Rattle.std.specs.Prelude.{◌⊎◌, ◌↔◌, IsSome, is_some, Result, Ok, Err, OnOk, OnErr}
-use Rattle.std.specs.FinMap.{get}
+use Rattle.std.proofs.Common.{◌≡◌, ◌≢◌, ℕ, List, [], ◌∷◌, ◌++◌, take, Some, None, refl, sym, ap, subst, ◌∙◌, inl, inr, arith}
+use Rattle.std.specs.Prelude.{is_some, Result, Ok, Err, OnOk, OnErr}
 use Rattle.crash_disk.specs.declared.event.Event.{Event}
 use Rattle.crash_disk.specs.declared.event.Event.TheVariants.{Created, Appended, Synced, Renamed, Removed, NamesSynced}
-use Rattle.crash_disk.specs.CrashLaws.{joined, drafted}
-use Rattle.crash_disk.specs.Files.{Files, file_at, IsThere}
+use Rattle.crash_disk.specs.Files.{file_at, IsThere}
 use Rattle.crash_disk.specs.FileLaws.{file_at-Synced, file_at-NamesSynced, file_at-Renamed-to, file_at-Renamed-from, file_at-Renamed-other, file_at-Removed-here}
 use Rattle.crash_disk.specs.Told.{Told, gains, IfTold, GainsOrNot, GainsPrefixOrNot}
 use Rattle.crash_disk.specs.GoesOn.{GoesOn}
-use Rattle.crash_disk.proofs.GoesOnLemmas.{goes_on-gains, goes_on-same, goes_on-either, goes_on-then, goes_on-weaker, told_now}
-use Rattle.replica_store.specs.Putting.{draft_path, IsAbsent, IsPutting, KeepsOthers, MayPut, HasPut}
-use Rattle.replica_store.proofs.ImageLemmas.{apart, others_start, others_more, others_removed, others_written, written, written_reads, stood_written, stood_synced, stood_named, stood_settled, settled_stays}
+use Rattle.crash_disk.proofs.GoesOnLemmas.{goes_on-gains, goes_on-same, goes_on-either, goes_on-then, goes_on-weaker}
+use Rattle.replica_store.specs.Putting.{draft_path, IsAbsent, IsPutting, KeepsOthers, Puts, MayPut, HasPut}
+use Rattle.replica_store.proofs.ImageLemmas.{apart, others_start, others_removed, others_synced, begun, more_put, stood_named, stood_settled, settled_stays}
 use Rattle.replica_store.proofs.SettleLemmas.{leaves_the_names}
-
--- what was written in these pieces
-is_putting : (path bytes : List ℕ) (pieces : List (List ℕ)) (x y : List Event) → y ≡ written path x pieces → joined pieces ≡ bytes → IsPutting path bytes x y
-is_putting path bytes pieces x y record_is in_pieces = record {
-  draft = ap (λ (es : List Event). file_at es (draft_path path)) record_is ∙ written_reads path x pieces ∙ ap (λ b. Some b) in_pieces;
-  others = subst (λ (es : List Event). KeepsOthers path x es) (sym record_is) (others_written path x pieces);
-  pieces = pieces;
-  in_pieces = in_pieces;
-  record_is = record_is;
-}
 
 -- ---- begin
 
-pub begun : (old cleared new : Told) (path : List ℕ) → cleared ≡ gains old (Removed (draft_path path)) → new ≡ gains cleared (Created (draft_path path)) → GoesOn old new (IsPutting path [])
-begun old cleared new path first second =
+pub begins : (old cleared new : Told) (path : List ℕ) → cleared ≡ gains old (Removed (draft_path path)) → new ≡ gains cleared (Created (draft_path path)) → GoesOn old new (IsPutting path [])
+begins old cleared new path first second =
     goes_on-then old cleared new (λ x y. y ≡ Removed (draft_path path) ∷ x) (λ y z. z ≡ Created (draft_path path) ∷ y) (IsPutting path [])
     (goes_on-gains old cleared (Removed (draft_path path)) _ first (λ events. refl))
     (goes_on-gains cleared new (Created (draft_path path)) _ second (λ events. refl))
-    (λ x y z y-is z-is. is_putting path [] [] x z (z-is ∙ ap (λ (es : List Event). Created (draft_path path) ∷ es) y-is) refl)
+    (λ x y z y-is z-is. subst (IsPutting path [] x) (sym (z-is ∙ ap (λ (es : List Event). Created (draft_path path) ∷ es) y-is)) (begun path x))
 
 pub not_cleared : (old new : Told) (path : List ℕ) → GainsOrNot old new (Removed (draft_path path)) → GoesOn old new (KeepsOthers path)
 not_cleared old new path may = goes_on-either old new (Removed (draft_path path)) (KeepsOthers path) may (λ events. others_start path events) (λ events. others_removed path events events (others_start path events))
 
 pub not_created : (old cleared new : Told) (path : List ℕ) → cleared ≡ gains old (Removed (draft_path path)) → GainsOrNot cleared new (Created (draft_path path)) → GoesOn old new (KeepsOthers path)
 not_created old cleared new path first (inl same) = not_cleared old new path (inr (same ∙ first))
-not_created old cleared new path first (inr is) = goes_on-weaker old new _ (KeepsOthers path) (begun old cleared new path first is) (λ x y putting. putting.others)
+not_created old cleared new path first (inr is) = goes_on-weaker old new _ (KeepsOthers path) (begins old cleared new path first is) (λ x y putting. putting.others)
 
 -- ---- append
 
@@ -46,7 +34,7 @@ pub appended : (begin old new : Told) (path before bytes : List ℕ) → GoesOn 
 appended begin old new path before bytes putting is =
     goes_on-then begin old new (IsPutting path before) (λ y z. z ≡ Appended (draft_path path) bytes ∷ y) (IsPutting path (before ++ bytes)) putting
     (goes_on-gains old new (Appended (draft_path path) bytes) _ is (λ events. refl))
-    (λ x y z p z-is. is_putting path (before ++ bytes) (bytes ∷ p.pieces) x z (z-is ∙ ap (λ (es : List Event). Appended (draft_path path) bytes ∷ es) p.record_is) (ap (λ b. b ++ bytes) p.in_pieces))
+    (λ x y z p z-is. subst (IsPutting path (before ++ bytes) x) (sym z-is) (more_put path x y before p bytes))
 
 pub not_appended : (begin old new : Told) (path before bytes : List ℕ) → GoesOn begin old (IsPutting path before) → GainsPrefixOrNot old new (draft_path path) bytes → GoesOn begin new (KeepsOthers path)
 not_appended begin old new path before bytes putting (inl same) =
@@ -69,102 +57,75 @@ there_once_synced None new name is there events told = absurd (none_is_some even
 there_once_synced (Some before) new name is there events told =
     subst (λ (es : List Event). IsThere es name) (some_same _ events (sym is ∙ told)) (record { there = ap is_some (file_at-Synced before name name) ∙ (there before refl).there })
 
-module _ (path : List ℕ) (base : List Event) (pieces : List (List ℕ)) where
+module _ (path : List ℕ) (base now : List Event) (bytes : List ℕ) (p : IsPutting path bytes base now) where
   abbrev draft : List ℕ
   draft = draft_path path
 
-  abbrev put : List Event
-  put = written path base pieces
+  abbrev synced : List Event
+  synced = Synced draft ∷ now
 
-  abbrev kept : KeepsOthers path base put
-  kept = others_written path base pieces
+  whole : file_at synced draft ≡ Some bytes
+  whole = file_at-Synced now draft draft ∙ p.draft
 
-  may_written : MayPut path (joined pieces) base put
-  may_written = record {
-    later = kept.later;
-    file = inl (kept.files path (apart path));
-    others = λ q elsewhere other. kept.files q other;
-    at_a_stop = stood_written path base pieces;
-  }
+  named_others : (q : List ℕ) → q ≢ path → q ≢ draft → file_at (Renamed draft path ∷ synced) q ≡ file_at base q
+  named_others q elsewhere other = file_at-Renamed-other synced draft path q other elsewhere ∙ file_at-Synced now draft q ∙ p.others.files q other
 
-  may_synced : MayPut path (joined pieces) base (Synced draft ∷ put)
-  may_synced = record {
-    later = omega (arith, kept.later);
-    file = inl (file_at-Synced put draft path ∙ kept.files path (apart path));
-    others = λ q elsewhere other. file_at-Synced put draft q ∙ kept.files q other;
-    at_a_stop = stood_synced path base pieces;
-  }
-
-  whole : file_at (Synced draft ∷ put) draft ≡ Some (joined pieces)
-  whole = file_at-Synced put draft draft ∙ written_reads path base pieces
-
-  named_others : (q : List ℕ) → q ≢ path → q ≢ draft → file_at (Renamed draft path ∷ Synced draft ∷ put) q ≡ file_at base q
-  named_others q elsewhere other = file_at-Renamed-other (Synced draft ∷ put) draft path q other elsewhere ∙ file_at-Synced put draft q ∙ kept.files q other
-
-  may_named : MayPut path (joined pieces) base (Renamed draft path ∷ Synced draft ∷ put)
-  may_named = record {
-    later = omega (arith, kept.later);
-    file = inr (file_at-Renamed-to (Synced draft ∷ put) draft path (joined pieces) whole);
+  puts_named : Puts path bytes base (Renamed draft path ∷ synced)
+  puts_named = record {
+    later = omega (arith, p.others.later);
+    file = file_at-Renamed-to synced draft path bytes whole;
     others = named_others;
-    at_a_stop = stood_named path base pieces;
+    at_a_stop = stood_named path base now bytes p;
   }
 
-  has_settled : HasPut path (joined pieces) base (NamesSynced ∷ Renamed draft path ∷ Synced draft ∷ put)
+  has_settled : HasPut path bytes base (NamesSynced ∷ Renamed draft path ∷ synced)
   has_settled =
-      let named = Renamed draft path ∷ Synced draft ∷ put in
-      let reads : file_at (NamesSynced ∷ named) path ≡ Some (joined pieces) = file_at-NamesSynced named path ∙ file_at-Renamed-to (Synced draft ∷ put) draft path (joined pieces) whole in
+      let named = Renamed draft path ∷ synced in
       record {
-        file = reads;
-        draft = file_at-NamesSynced named draft ∙ file_at-Renamed-from (Synced draft ∷ put) draft path (joined pieces) (λ same. apart path (sym same)) whole;
-        may = record {
-          later = omega (arith, kept.later);
-          file = inr reads;
+        puts = record {
+          later = omega (arith, p.others.later);
+          file = file_at-NamesSynced named path ∙ file_at-Renamed-to synced draft path bytes whole;
           others = λ q elsewhere other. file_at-NamesSynced named q ∙ named_others q elsewhere other;
-          at_a_stop = stood_settled path base pieces;
+          at_a_stop = stood_settled path base now bytes p;
         };
-        stays = settled_stays path base pieces;
+        draft = file_at-NamesSynced named draft ∙ file_at-Renamed-from synced draft path bytes (λ same. apart path (sym same)) whole;
+        stays = settled_stays path base now bytes p;
         names = leaves_the_names named;
       }
-
--- what is true of a record of pieces is true of a put
-of_pieces : (P : List ℕ → List Event → Type 0) (path bytes : List ℕ) (x y : List Event) → IsPutting path bytes x y → ((pieces : List (List ℕ)) → P (joined pieces) (written path x pieces)) → P bytes y
-of_pieces P path bytes x y putting holds =
-    subst (P bytes) (sym putting.record_is) (subst (λ (b : List ℕ). P b (written path x putting.pieces)) putting.in_pieces (holds putting.pieces))
 
 pub not_synced : (begin old new : Told) (path bytes : List ℕ) → GoesOn begin old (IsPutting path bytes) → new ≡ old → GoesOn begin new (MayPut path bytes)
 not_synced begin old new path bytes putting same =
     goes_on-then begin old new (IsPutting path bytes) (λ y z. z ≡ y) (MayPut path bytes) putting (goes_on-same old new _ same (λ events. refl))
-    (λ x y z p z-is. of_pieces (λ (b : List ℕ) (es : List Event). MayPut path b x es) path bytes x z (subst (λ (es : List Event). IsPutting path bytes x es) (sym z-is) p) (may_written path x))
+    (λ x y z p z-is. inl (subst (λ (es : List Event). KeepsOthers path x es) (sym z-is) p.others))
 
 module _ (begin old synced : Told) (path bytes : List ℕ) (putting : GoesOn begin old (IsPutting path bytes)) (is-synced : synced ≡ gains old (Synced (draft_path path))) where
-  now_synced : GoesOn old synced (λ y z. z ≡ Synced (draft_path path) ∷ y)
-  now_synced = goes_on-gains old synced (Synced (draft_path path)) _ is-synced (λ events. refl)
-
-  synced_with : (P : List ℕ → List Event → List Event → Type 0) → ((x : List Event) (pieces : List (List ℕ)) → P (joined pieces) x (Synced (draft_path path) ∷ written path x pieces)) → GoesOn begin synced (P bytes)
+  -- what holds behind the sync, by the draft that was synced
+  synced_with : (P : List Event → List Event → Type 0) → ((x y : List Event) → IsPutting path bytes x y → P x (Synced (draft_path path) ∷ y)) → GoesOn begin synced P
   synced_with P holds =
-      goes_on-then begin old synced (IsPutting path bytes) _ (P bytes) putting now_synced
-      (λ x y z p z-is. subst (P bytes x) (sym z-is) (of_pieces (λ (b : List ℕ) (es : List Event). P b x (Synced (draft_path path) ∷ es)) path bytes x y p (holds x)))
+      goes_on-then begin old synced (IsPutting path bytes) (λ y z. z ≡ Synced (draft_path path) ∷ y) P putting
+      (goes_on-gains old synced (Synced (draft_path path)) _ is-synced (λ events. refl))
+      (λ x y z p z-is. subst (P x) (sym z-is) (holds x y p))
 
-  -- the rename, over what is synced
-  renamed_with : (new : Told) → new ≡ gains synced (Renamed (draft_path path) path) → (P : List ℕ → List Event → List Event → Type 0)
-      → ((x : List Event) (pieces : List (List ℕ)) → P (joined pieces) x (Renamed (draft_path path) path ∷ Synced (draft_path path) ∷ written path x pieces)) → GoesOn begin new (P bytes)
+  -- and behind the rename
+  renamed_with : (new : Told) → new ≡ gains synced (Renamed (draft_path path) path) → (P : List Event → List Event → Type 0)
+      → ((x y : List Event) → IsPutting path bytes x y → P x (Renamed (draft_path path) path ∷ Synced (draft_path path) ∷ y)) → GoesOn begin new P
   renamed_with new is P holds =
-      goes_on-then begin synced new (λ x y. P bytes x (Renamed (draft_path path) path ∷ y)) (λ y z. z ≡ Renamed (draft_path path) path ∷ y) (P bytes)
-      (synced_with (λ (b : List ℕ) (x y : List Event). P b x (Renamed (draft_path path) path ∷ y)) holds)
+      goes_on-then begin synced new (λ x y. P x (Renamed (draft_path path) path ∷ y)) (λ y z. z ≡ Renamed (draft_path path) path ∷ y) P
+      (synced_with (λ x y. P x (Renamed (draft_path path) path ∷ y)) holds)
       (goes_on-gains synced new (Renamed (draft_path path) path) _ is (λ events. refl))
-      (λ x y z p z-is. subst (P bytes x) (sym z-is) p)
+      (λ x y z p z-is. subst (P x) (sym z-is) p)
 
   pub not_renamed : (new : Told) → GainsOrNot synced new (Renamed (draft_path path) path) → GoesOn begin new (MayPut path bytes)
-  not_renamed new (inl same) = subst (λ (t : Told). GoesOn begin t (MayPut path bytes)) (sym same) (synced_with (MayPut path) (may_synced path))
-  not_renamed new (inr is) = renamed_with new is (MayPut path) (may_named path)
+  not_renamed new (inl same) = subst (λ (t : Told). GoesOn begin t (MayPut path bytes)) (sym same) (synced_with (MayPut path bytes) (λ x y p. inl (others_synced path x y bytes p)))
+  not_renamed new (inr is) = renamed_with new is (MayPut path bytes) (λ x y p. inr (puts_named path x y bytes p))
 
   pub not_settled : (renamed new : Told) → renamed ≡ gains synced (Renamed (draft_path path) path) → new ≡ renamed → GoesOn begin new (MayPut path bytes)
-  not_settled renamed new is same = renamed_with new (same ∙ is) (MayPut path) (may_named path)
+  not_settled renamed new is same = renamed_with new (same ∙ is) (MayPut path bytes) (λ x y p. inr (puts_named path x y bytes p))
 
   pub settled : (renamed new : Told) → renamed ≡ gains synced (Renamed (draft_path path) path) → new ≡ gains renamed NamesSynced → GoesOn begin new (HasPut path bytes)
   settled renamed new is settle =
       goes_on-then begin renamed new (λ x y. HasPut path bytes x (NamesSynced ∷ y)) (λ y z. z ≡ NamesSynced ∷ y) (HasPut path bytes)
-      (renamed_with renamed is (λ (b : List ℕ) (x y : List Event). HasPut path b x (NamesSynced ∷ y)) (has_settled path))
+      (renamed_with renamed is (λ x y. HasPut path bytes x (NamesSynced ∷ y)) (λ x y p. has_settled path x y bytes p))
       (goes_on-gains renamed new NamesSynced _ settle (λ events. refl))
       (λ x y z p z-is. subst (HasPut path bytes x) (sym z-is) p)
 

@@ -1,17 +1,13 @@
 -- Once the names are synced a crash leaves exactly those that are there.
-use Rattle.std.proofs.Common.{◌≡◌, ℕ, List, [], ◌∷◌, Option, Some, None, refl, sym, subst, ◌∙◌, ⊎_elim}
+use Rattle.std.proofs.Common.{ℕ, List, ◌∷◌, Option, Some, None, refl, sym, subst, ⊎_elim}
 use Rattle.std.specs.Prelude.{◌↔◌, IsSome}
 use Rattle.std.specs.FinMap.{get}
 use Rattle.crash_disk.specs.declared.event.Event.{Event}
 use Rattle.crash_disk.specs.declared.event.Event.TheVariants.{NamesSynced}
-use Rattle.crash_disk.specs.Files.{Files, file_at}
-use Rattle.crash_disk.specs.FileLaws.{file_at-NamesSynced}
+use Rattle.crash_disk.specs.Files.{Files}
 use Rattle.crash_disk.specs.Images.{IsImageOf, IsCrashImage}
 use Rattle.crash_disk.specs.Numbers.{number_at, numbers_at, file_of}
 use Rattle.crash_disk.specs.ReadFiles.{bytes_by, file_at-numbered}
-use Rattle.crash_disk.specs.Told.{Told, gains}
-use Rattle.crash_disk.specs.GoesOn.{GoesOn}
-use Rattle.crash_disk.proofs.GoesOnLemmas.{goes_on-gains}
 use Rattle.replica_store.specs.Putting.{LeavesTheNames}
 
 -- an image of a number is there where the number is

@@ -1,5 +1,5 @@
 -- What changes make of a state, one after another.
-use Rattle.std.specs.Prelude.{◌≡◌, ℕ, ◌<◌, ◌≤◌, List, [], ◌∷◌, ◌++◌, map, Some, None, IsSome}
+use Rattle.std.specs.Prelude.{◌≡◌, ℕ, ◌<◌, ◌≤◌, List, [], ◌∷◌, map, None, IsSome}
 use Rattle.ls_base.specs.State.{State, empty_state}
 use Rattle.ls_base.specs.Change.{Change, IsApplicable, apply, page_after}
 use Rattle.ltx_format.specs.declared.file.LtxFile.{LtxFile}

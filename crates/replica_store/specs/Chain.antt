@@ -23,10 +23,14 @@ pub record MayComeNext (after : ℕ) (name : FileName) : Type 0 where
   pub begins : name.min ≤ after + 1
   pub goes_on : after < name.max
 
--- the chain leads from a transaction to another by files of these names, each from where the one before it ends
+-- the chain leads from a transaction to another by files that are there, each from where the one before it ends
+abbrev pub LeadsBy : (FileName → Type 0) → ℕ → List FileName → ℕ → Type 0
+LeadsBy IsThere from [] t = from ≡ t
+LeadsBy IsThere from (name ∷ chain) t = IsThere name × MayComeNext from name × LeadsBy IsThere name.max chain t
+
+-- the same by files of these names
 abbrev pub LeadsTo : List FileName → ℕ → List FileName → ℕ → Type 0
-LeadsTo names from [] t = from ≡ t
-LeadsTo names from (name ∷ chain) t = Contains names name × MayComeNext from name × LeadsTo names name.max chain t
+LeadsTo names from chain t = LeadsBy (Contains names) from chain t
 
 -- a chain to t, of these names: it leads there from nothing, which is transaction 0
 abbrev pub IsChain : List FileName → ℕ → List FileName → Type 0

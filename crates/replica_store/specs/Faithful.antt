@@ -1,5 +1,5 @@
 -- What it means that a replica's files tell the truth about a history and a sync log.
-use Rattle.std.specs.Prelude.{◌≡◌, ℕ, ◌+◌, ◌^◌, ◌<◌, ◌≤◌, List, length, Some, IsSome, IsTrue, ◌⊎◌}
+use Rattle.std.specs.Prelude.{◌≡◌, ℕ, ◌+◌, ◌<◌, ◌≤◌, List, length, Some, IsSome, ◌⊎◌}
 use Rattle.std.specs.List.{AllByRecursion}
 use Rattle.std.specs.FinMap.{get}
 use Rattle.crash_disk.specs.Files.{Files}
@@ -37,6 +37,9 @@ pub record IsFaithfulFile (history : History) (log : SyncLog) (min max : ℕ) (b
 pub record IsFaithful (files : Files) (history : History) (log : SyncLog) : Type 0 where
   pub rising : IsSyncLog log
   pub placed : AllByRecursion (λ line. IsSome (state_at history line.place)) log
-  pub within : (level min max : ℕ) → IsName level min max → IsSome (get files (file_path level min max)) → max ≤ length log
-  pub reached : 0 < length log → (level : ℕ) × (min : ℕ) × IsName level min (length log) × IsSome (get files (file_path level min (length log)))
-  pub each : (level min max : ℕ) (bytes : List ℕ) → IsName level min max → get files (file_path level min max) ≡ Some bytes → IsFaithfulFile history log min max bytes
+  pub within : (level min max : ℕ) → IsName level min max → IsSome (get files (file_path level min max))
+      → max ≤ length log
+  pub reached : 0 < length log
+      → (level : ℕ) × (min : ℕ) × IsName level min (length log) × IsSome (get files (file_path level min (length log)))
+  pub each : (level min max : ℕ) (bytes : List ℕ) → IsName level min max
+      → get files (file_path level min max) ≡ Some bytes → IsFaithfulFile history log min max bytes

@@ -1,7 +1,7 @@
 -- The file under a name.
 use Rattle.std.specs.Prelude.{◌≡◌, ◌≢◌, ℕ, List, [], ◌∷◌, Some, ◌⊎◌}
 use Rattle.std.specs.List.{AllByRecursion}
-use Rattle.crash_disk.specs.declared.event.Event.{Event}
+use Rattle.crash_disk.specs.Files.{Files}
 use Rattle.ls_base.specs.Change.{Change}
 use Rattle.ltx_format.specs.declared.file.LtxFile.{LtxFile}
 use Rattle.ltx_format.specs.declared.header.LtxHeader.{LtxHeader}
@@ -39,15 +39,16 @@ IsDamage bytes name size NameDiffers = IsFileOfOthers bytes name.min name.max
 IsDamage bytes name size SizeDiffers = IsFileOfOtherSize bytes name.min name.max size
 
 -- the bytes under the name are this file
-abbrev pub IsFileUnder : List Event → FileName → LtxFile → Type 0
-IsFileUnder events name file = IsFileOf (bytes_under events (path_of name)) name.min name.max file.header (change_of file)
+abbrev pub IsFileUnder : Files → FileName → LtxFile → Type 0
+IsFileUnder files name file =
+    IsFileOf (bytes_under files (path_of name)) name.min name.max file.header (change_of file)
 
 -- these are the files under the names, one for each
-abbrev pub AreFilesUnder : List Event → List FileName → List LtxFile → Type 0
-AreFilesUnder events [] [] = Unit {0}
-AreFilesUnder events [] (file ∷ files) = ⊥
-AreFilesUnder events (name ∷ names) [] = ⊥
-AreFilesUnder events (name ∷ names) (file ∷ files) = IsFileUnder events name file × AreFilesUnder events names files
+abbrev pub AreFilesUnder : Files → List FileName → List LtxFile → Type 0
+AreFilesUnder files [] [] = Unit {0}
+AreFilesUnder files [] (file ∷ rest) = ⊥
+AreFilesUnder files (name ∷ names) [] = ⊥
+AreFilesUnder files (name ∷ names) (file ∷ rest) = IsFileUnder files name file × AreFilesUnder files names rest
 
 -- each file has this page size
 abbrev pub HavePageSize : ℕ → List LtxFile → Type 0

@@ -2,6 +2,7 @@ pub mod NameText
 pub mod NameLaws
 pub mod Chain
 pub mod Listing
+pub mod Retained
 pub mod StoreError
 pub mod Putting
 pub mod FileOf

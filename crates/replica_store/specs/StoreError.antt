@@ -1,5 +1,5 @@
 -- What an error of a call on the replica rests on.
-use Rattle.std.specs.Prelude.{ℕ, ◌≤◌, Result, IsErrOf, IfErr, ⊤}
+use Rattle.std.specs.Prelude.{ℕ, ◌≤◌, Result, IsErrOf, ⊤}
 use Rattle.crash_disk.specs.declared.fault.DiskFault.{DiskFault}
 use Rattle.crash_disk.specs.declared.fault.NamesFault.{NamesFault}
 use Rattle.crash_disk.specs.declared.fault.NamesFault.TheVariants.{Disk, Memory as no_memory}

@@ -25,13 +25,16 @@ pub enum Damage {
 }
 
 /// Why a call on the replica failed.
-#[derive(Clone, Copy, Debug, PartialEq, Eq)]
+#[derive(Clone, Copy, Debug, PartialEq, Eq, Error)]
 pub enum StoreError {
     /// The replica's disk failed. Its count of faults has risen, or stands at its last value.
+    #[error("the replica's disk failed")]
     Store(DiskFault),
     /// The file of this name is damaged.
+    #[error("{1}")]
     Damaged(FileName, Damage),
     /// There was no memory.
+    #[error("out of memory")]
     Memory,
 }
 

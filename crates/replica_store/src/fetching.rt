@@ -1,6 +1,7 @@
 //! Reading a file of the replica whole.
 
 ghost use Rattle.std.specs.Prelude.{◌≡◌, IfOk, IfErr};
+ghost use Rattle.crash_disk.specs.Files.{files_after};
 ghost use Rattle.crash_disk.specs.Told.{IfTold};
 ghost use Rattle.replica_store.specs.Listing.{path_of, bytes_under};
 ghost use Rattle.replica_store.specs.StoreError.{StoreHasCause, BlamesNoFile};
@@ -15,7 +16,7 @@ use std::alloc::Global;
 /// The bytes of the file of this name, in one reading; none where the file is absent. `Store` for a fault of the disk
 /// and `Memory` for want of memory; nothing else.
 pub fn get<S: Disk>(alloc: Global, store: &mut S, name: &FileName) -> Result<Bytes, StoreError>
-    ensures value { IfOk result (λ bytes. IfTold (S.told store.old) (λ events. bytes ≡ bytes_under events (path_of name.now))) }
+    ensures value { IfOk result (λ bytes. IfTold (S.told store.old) (λ events. bytes ≡ bytes_under (files_after events) (path_of name.now))) }
     ensures blames_no_file { IfErr result BlamesNoFile }
     ensures unchanged { S.told store.new ≡ S.told store.old }
     ensures same_folder { S.folder store.new ≡ S.folder store.old }

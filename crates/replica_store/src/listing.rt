@@ -1,6 +1,7 @@
 //! The list of a replica's files.
 
 ghost use Rattle.std.specs.Prelude.{◌≡◌, IfOk, IfErr};
+ghost use Rattle.crash_disk.specs.Files.{files_after};
 ghost use Rattle.crash_disk.specs.Told.{IfTold};
 ghost use Rattle.replica_store.specs.Chain.{IsListOrdered};
 ghost use Rattle.replica_store.specs.Listing.{AreListed, AreReadOf};
@@ -33,7 +34,7 @@ fn read_names(alloc: Global, texts: &NameList) -> Result<Vec<FileName>, Memory>
 /// last. All other names of the store, temporary ones too, are passed over. `Store` for a fault of the disk and
 /// `Memory` for want of memory; nothing else.
 pub fn list<S: Disk>(alloc: Global, store: &mut S) -> Result<FileNames, StoreError>
-    ensures value { IfOk result (λ names. IfTold (S.told store.old) (λ events. AreListed events names)) }
+    ensures value { IfOk result (λ names. IfTold (S.told store.old) (λ events. AreListed (files_after events) names)) }
     ensures ordered { IfOk result (λ names. IsListOrdered names) }
     ensures blames_no_file { IfErr result BlamesNoFile }
     ensures unchanged { S.told store.new ≡ S.told store.old }

@@ -1,12 +1,12 @@
 //! Putting a file into the replica, so that no crash leaves a part of it.
 
-ghost use Rattle.std.specs.Prelude.{◌≡◌, ℕ, List, [], ◌++◌, IfOk, OnOk, OnErr};
+ghost use Rattle.std.specs.Prelude.{◌≡◌, [], ◌++◌, IfOk, OnOk, OnErr};
 ghost use Rattle.crash_disk.specs.Fault.{HasCause};
 ghost use Rattle.crash_disk.specs.Told.{Told, IfTold};
 ghost use Rattle.crash_disk.specs.Files.{IsThere};
 ghost use Rattle.crash_disk.specs.GoesOn.{GoesOn};
 ghost use Rattle.replica_store.specs.NameText.{file_path};
-ghost use Rattle.replica_store.specs.Putting.{draft_path, IsAbsent, IsPutting, MayPut, HasPut, KeepsOthers};
+ghost use Rattle.replica_store.specs.Putting.{draft_path, IsAbsent, IsPutting, AfterPutting, MayPut, HasPut, KeepsOthers};
 
 use crate::draft::DraftText;
 use crate::file_name::FileName;
@@ -57,8 +57,8 @@ impl Put {
     pub fn append<S: Disk>(&mut self, store: &mut S, bytes: &[u8]) -> Result<(), DiskFault>
         requires there { IfTold (S.told store.old) (λ events. IsThere events (draft_path self.old)) }
         ensures same_name { self.new ≡ self.old }
-        ensures ok { OnOk result ((begun : Told) (before : List ℕ) → GoesOn begun (S.told store.old) (IsPutting self.old before) → GoesOn begun (S.told store.new) (IsPutting self.old (before ++ bytes.now))) }
-        ensures err { OnErr result ((begun : Told) (before : List ℕ) → GoesOn begun (S.told store.old) (IsPutting self.old before) → GoesOn begun (S.told store.new) (KeepsOthers self.old)) }
+        ensures ok { OnOk result (AfterPutting self.old (S.told store.old) (S.told store.new) (λ written. IsPutting self.old (written ++ bytes.now))) }
+        ensures err { OnErr result (AfterPutting self.old (S.told store.old) (S.told store.new) (λ written. KeepsOthers self.old)) }
         ensures same_folder { S.folder store.new ≡ S.folder store.old }
         ensures cause { HasCause (S.fault_count store.old) (S.fault_count store.new) result }
     {
@@ -69,8 +69,8 @@ impl Put {
     /// file is there whole or as it was. Takes no memory.
     pub fn finish<S: Disk>(self, store: &mut S) -> Result<(), DiskFault>
         requires there { IfTold (S.told store.old) (λ events. IsThere events (draft_path self)) }
-        ensures ok { OnOk result ((begun : Told) (bytes : List ℕ) → GoesOn begun (S.told store.old) (IsPutting self bytes) → GoesOn begun (S.told store.new) (HasPut self bytes)) }
-        ensures err { OnErr result ((begun : Told) (bytes : List ℕ) → GoesOn begun (S.told store.old) (IsPutting self bytes) → GoesOn begun (S.told store.new) (MayPut self bytes)) }
+        ensures ok { OnOk result (AfterPutting self (S.told store.old) (S.told store.new) (HasPut self)) }
+        ensures err { OnErr result (AfterPutting self (S.told store.old) (S.told store.new) (MayPut self)) }
         ensures same_folder { S.folder store.new ≡ S.folder store.old }
         ensures cause { HasCause (S.fault_count store.old) (S.fault_count store.new) result }
     {

@@ -4,7 +4,7 @@ ghost use Rattle.std.specs.Prelude.{◌≡◌, OnOk, OnErr};
 ghost use Rattle.crash_disk.specs.Fault.{HasCause};
 ghost use Rattle.crash_disk.specs.GoesOn.{GoesOn};
 ghost use Rattle.replica_store.specs.NameText.{file_path};
-ghost use Rattle.replica_store.specs.Putting.{IsSettled, HasDropped, MayDrop};
+ghost use Rattle.replica_store.specs.Putting.{HasSyncedNames, HasDropped, MayDrop};
 
 use crate::file_name::FileName;
 use crate::name_text::write_name;
@@ -12,7 +12,7 @@ use crash_disk::{Disk, DiskFault};
 
 /// Brings the names to the disk: after Ok a crash leaves exactly the files that are there. Takes no memory.
 pub fn settle<S: Disk>(store: &mut S) -> Result<(), DiskFault>
-    ensures ok { OnOk result (GoesOn (S.told store.old) (S.told store.new) IsSettled) }
+    ensures ok { OnOk result (GoesOn (S.told store.old) (S.told store.new) HasSyncedNames) }
     ensures err { OnErr result (S.told store.new ≡ S.told store.old) }
     ensures same_folder { S.folder store.new ≡ S.folder store.old }
     ensures cause { HasCause (S.fault_count store.old) (S.fault_count store.new) result }

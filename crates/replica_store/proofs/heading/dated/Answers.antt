@@ -1,4 +1,5 @@
-use Rattle.std.proofs.Common.{◌≡◌, List, subst, sym, ◌∙◌, arith}
+use Rattle.std.proofs.Common.{◌∙◌, arith}
+use Rattle.crash_disk.specs.Files.{files_after}
 use Rattle.replica_store.specs.Dating.{ExplainsDated}
 use Rattle.replica_store.proofs.HeaderLemmas.{dated_more, names_to, dated_error, error_goes_on}
 use Rattle.replica_store.proofs.heading.dated.Goals as goal
@@ -16,5 +17,5 @@ loop-name-preserved g c = record {
   names = names_to c.args.names.now c.loop-name.name-index c.loop-name.list c.push.new.self c.name-item.result c.in_ok-header.header.moment c.loop-name-test.true c.name-item.is c.loop-name.invariant.names c.in_ok-push.ensures.ok;
   dated = λ events told.
       let now = c.loop-name.invariant.unchanged ∙ told in
-      dated_more events c.args.names.now c.loop-name.name-index c.loop-name.list c.push.new.self c.name-item.result c.in_ok-header.header c.loop-name-test.true c.name-item.is (c.loop-name.invariant.dated events told) (c.in_ok-header.ensures.value events now) c.in_ok-push.ensures.ok;
+      dated_more (files_after events) c.args.names.now c.loop-name.name-index c.loop-name.list c.push.new.self c.name-item.result c.in_ok-header.header c.loop-name-test.true c.name-item.is (c.loop-name.invariant.dated events told) (c.in_ok-header.ensures.value events now) c.in_ok-push.ensures.ok;
 }

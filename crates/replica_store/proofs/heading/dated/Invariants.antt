@@ -1,4 +1,5 @@
 use Rattle.std.proofs.Common.{◌≡◌, ◌≤◌, take}
+use Rattle.crash_disk.specs.Files.{files_after}
 use Rattle.crash_disk.specs.Told.{IfTold}
 use Rattle.replica_store.specs.Chain.{names_of}
 use Rattle.replica_store.proofs.HeaderLemmas.{AreDatedTo}
@@ -10,5 +11,5 @@ invariant-loop-name g l = record {
   same_folder : g.S.Disk.folder l.store ≡ g.S.Disk.folder l.initial.store;
   later : g.S.Disk.fault_count l.initial.store ≤ g.S.Disk.fault_count l.store;
   names : names_of l.list ≡ take l.name-index l.names;
-  dated : IfTold (g.S.Disk.told l.initial.store) (λ events. AreDatedTo events l.names l.name-index l.list);
+  dated : IfTold (g.S.Disk.told l.initial.store) (λ events. AreDatedTo (files_after events) l.names l.name-index l.list);
 }

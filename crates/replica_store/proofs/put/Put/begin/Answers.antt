@@ -1,11 +1,10 @@
 use Rattle.std.proofs.Common.{◌≡◌, sym, subst, List, [], ℕ, ◌∙◌}
-use Rattle.std.proofs.lemmas.Result.{on_err_weaker}
 use Rattle.crash_disk.specs.declared.event.Event.TheVariants.{Created, Removed}
 use Rattle.crash_disk.specs.Told.{gains, GainsOrNot}
 use Rattle.crash_disk.specs.GoesOn.{GoesOn}
 use Rattle.replica_store.specs.NameText.{file_path}
-use Rattle.replica_store.specs.Putting.{draft_path, IsPutting, KeepsOthers}
-use Rattle.replica_store.proofs.PutLemmas.{begun, not_cleared, not_created, err_leaves}
+use Rattle.replica_store.specs.Putting.{IsPutting}
+use Rattle.replica_store.proofs.PutLemmas.{begins, not_cleared, not_created, err_leaves}
 use Rattle.replica_store.proofs.put.Put.begin.Goals as goal
 
 pub returns-in_err-remove-clause-err : goal.returns-in_err-remove-clause-err
@@ -38,6 +37,6 @@ returns-clause-ok g c =
     let first = c.as_str.ensures ∙ c.of-draft.ensures in
     let second = c.as_str-2.ensures ∙ c.of-draft.ensures in
     subst (λ (q : List ℕ). GoesOn old new (IsPutting q [])) (sym c.write_name.ensures)
-    (begun old cleared new path
+    (begins old cleared new path
     (subst (λ (q : List ℕ). cleared ≡ gains old (Removed q)) first c.in_ok-remove.ensures.ok)
     (subst (λ (q : List ℕ). new ≡ gains cleared (Created q)) second c.in_ok-create.ensures.ok))
