@@ -4,12 +4,12 @@ use Rattle.std.specs.Prelude.{◌⊎◌}
 use Rattle.std.specs.FinMap.{get}
 use Rattle.crash_disk.specs.declared.event.Event.{Event}
 use Rattle.crash_disk.specs.declared.event.Event.TheVariants.{Removed, NamesSynced}
-use Rattle.crash_disk.specs.FileLaws.{at_name, file_at-NamesSynced, file_at-Removed-here, file_at-Removed-other}
+use Rattle.crash_disk.proofs.FileLaws.{at_name, file_at-NamesSynced, file_at-Removed-here, file_at-Removed-other}
 use Rattle.crash_disk.specs.FileState.{SomeOf}
 use Rattle.crash_disk.specs.Images.{IsImageOf, MayStandAt}
-use Rattle.crash_disk.specs.ImageSteps.{SomeOf-weaken, same_image, MayStandAt-Removed-other, MayStandAt-NamesSynced}
-use Rattle.crash_disk.specs.Moments.{since_more, since_start}
-use Rattle.crash_disk.specs.NumberLaws.{by_names}
+use Rattle.crash_disk.proofs.ImageSteps.{SomeOf-weaken, same_image, MayStandAt-Removed-other, MayStandAt-NamesSynced}
+use Rattle.crash_disk.proofs.Moments.{since_more, since_start}
+use Rattle.crash_disk.proofs.NumberLaws.{by_names}
 use Rattle.crash_disk.specs.Numbers.{numbers_at, file_of}
 use Rattle.crash_disk.specs.Told.{Told, gains, GainsOrNot}
 use Rattle.crash_disk.specs.GoesOn.{GoesOn}

@@ -4,18 +4,18 @@ use Rattle.std.specs.FinMap.{get}
 use Rattle.crash_disk.specs.declared.event.Event.{Event}
 use Rattle.crash_disk.specs.declared.event.Event.TheVariants.{Created, Appended, Synced, Renamed, Removed, NamesSynced}
 use Rattle.crash_disk.specs.Files.{Files, file_at}
-use Rattle.crash_disk.specs.DistinctNumbers.{same_number}
-use Rattle.crash_disk.specs.FileLaws.{file_at-Created-here, file_at-Created-other, file_at-Appended-here, file_at-Appended-other, file_at-Removed-other, file_at-Synced}
+use Rattle.crash_disk.proofs.DistinctNumbers.{same_number}
+use Rattle.crash_disk.proofs.FileLaws.{file_at-Created-here, file_at-Created-other, file_at-Appended-here, file_at-Appended-other, file_at-Removed-other, file_at-Synced}
 use Rattle.crash_disk.specs.FileState.{FileState, SomeOf}
 use Rattle.crash_disk.specs.Images.{MayStandAt, IsCrashImage, WasCrashImageSince}
-use Rattle.crash_disk.specs.ImageSteps.{MayStandAt-Removed-other, MayStandAt-NamesSynced}
-use Rattle.crash_disk.specs.Moments.{since_now, since_more, since_start}
-use Rattle.crash_disk.specs.NumberLaws.{by_names, number_at-Removed-here}
+use Rattle.crash_disk.proofs.ImageSteps.{MayStandAt-Removed-other, MayStandAt-NamesSynced}
+use Rattle.crash_disk.proofs.Moments.{since_now, since_more, since_start}
+use Rattle.crash_disk.proofs.NumberLaws.{by_names, number_at-Removed-here}
 use Rattle.crash_disk.specs.Numbers.{number_at, numbers_at, file_of}
-use Rattle.crash_disk.specs.PutLaws.{IsDraft, IsWhole, IsNamed, IsDraft-fresh, IsDraft-Appended, IsWhole-Synced, IsNamed-Renamed}
-use Rattle.crash_disk.specs.PutImages.{draft_images, named_images, named_images-other, put_images}
-use Rattle.crash_disk.specs.PutTheorem.{image_with}
-use Rattle.crash_disk.specs.ReadFiles.{bytes_by, file_at-numbered}
+use Rattle.crash_disk.proofs.PutLaws.{IsDraft, IsWhole, IsNamed, IsDraft-fresh, IsDraft-Appended, IsWhole-Synced, IsNamed-Renamed}
+use Rattle.crash_disk.proofs.PutImages.{draft_images, named_images, named_images-other, put_images}
+use Rattle.crash_disk.proofs.PutTheorem.{image_with}
+use Rattle.crash_disk.proofs.ReadFiles.{bytes_by, file_at-numbered}
 use Rattle.replica_store.specs.Putting.{draft_path, IsAlone, IsPutting, KeepsOthers, KeptOrPut}
 
 longer : (path : List ℕ) → length path ≡ length (draft_path path) → ⊥

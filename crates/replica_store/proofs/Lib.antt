@@ -1,5 +1,6 @@
 mod StandardFacts
 pub mod HeaderLemmas
+pub mod PathLemmas
 pub mod NameLemmas
 pub mod ReadingLemmas
 pub mod ImageLemmas
@@ -7,3 +8,5 @@ pub mod SettleLemmas
 pub mod DropLemmas
 pub mod PutLemmas
 pub mod ListLemmas
+pub mod OneListLemmas
+pub mod GivenLemmas

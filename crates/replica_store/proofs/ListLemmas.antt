@@ -15,9 +15,9 @@ use Rattle.std.proofs.lemmas.List.Sorted.{IsPermutation-map, list_any-IsPermutat
 use Rattle.std.proofs.lemmas.Map.Keys.{IsDistinct-IsPermutation}
 use Rattle.std.proofs.lemmas.Map.Views.{Contains-from_any, list_any-from_Contains}
 use Rattle.crash_disk.specs.declared.event.Event.{Event}
-use Rattle.crash_disk.specs.Files.{files_after, file_at, AreNamesOf}
-use Rattle.crash_disk.specs.FileLaws.{is_name, is_name-other}
-use Rattle.crash_disk.specs.NumberLaws.{by_names}
+use Rattle.crash_disk.specs.Files.{files_after, file_at, is_name, AreNamesOf}
+use Rattle.crash_disk.proofs.FileLaws.{is_name-other}
+use Rattle.crash_disk.proofs.NumberLaws.{by_names}
 use Rattle.replica_store.specs.declared.file_name.FileName.{FileName}
 use Rattle.replica_store.specs.NameText.{IsName, file_path}
 use Rattle.replica_store.specs.Chain.{IsListOrdered}

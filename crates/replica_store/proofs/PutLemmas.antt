@@ -4,7 +4,7 @@ use Rattle.std.specs.Prelude.{is_some, Result, Ok, Err, OnOk, OnErr}
 use Rattle.crash_disk.specs.declared.event.Event.{Event}
 use Rattle.crash_disk.specs.declared.event.Event.TheVariants.{Created, Appended, Synced, Renamed, Removed, NamesSynced}
 use Rattle.crash_disk.specs.Files.{file_at, IsThere}
-use Rattle.crash_disk.specs.FileLaws.{file_at-Synced, file_at-NamesSynced, file_at-Renamed-to, file_at-Renamed-from, file_at-Renamed-other, file_at-Removed-here}
+use Rattle.crash_disk.proofs.FileLaws.{file_at-Synced, file_at-NamesSynced, file_at-Renamed-to, file_at-Renamed-from, file_at-Renamed-other, file_at-Removed-here}
 use Rattle.crash_disk.specs.Told.{Told, gains, IfTold, GainsOrNot, GainsPrefixOrNot}
 use Rattle.crash_disk.specs.GoesOn.{GoesOn}
 use Rattle.crash_disk.proofs.GoesOnLemmas.{goes_on-gains, goes_on-same, goes_on-either, goes_on-then, goes_on-weaker}

@@ -1,5 +1,5 @@
 -- Why a text that a name writes is read.
-use Rattle.std.proofs.Common.{◌≡◌, ℕ, ◌+◌, ◌-◌, ◌^◌, ◌<◌, ◌≤◌, ◌≢◌, true, not, List, get_or, Option, Some, None, refl, sym, ap, subst, ◌∙◌, arith}
+use Rattle.std.proofs.Common.{◌≡◌, ℕ, ◌+◌, ◌-◌, ◌^◌, ◌<◌, ◌≤◌, ◌≢◌, Bool, true, false, not, List, get_or, Option, Some, None, refl, sym, ap, subst, ◌∙◌, arith}
 use Rattle.std.specs.Option.{IfNone, SomeIff}
 use Rattle.std.specs.Prelude.{IsUtf8}
 use Rattle.std.specs.Str.{bytes_eq}
@@ -9,7 +9,7 @@ use Rattle.std.proofs.lemmas.Str.{IsUtf8-from_ascii}
 use Rattle.std.proofs.lemmas.Option.{none-some}
 use Rattle.ls_base.specs.Txid.{hex_digits}
 use Rattle.replica_store.specs.NameText.{IsName, file_path}
-use Rattle.replica_store.specs.NameLaws.{level_part, min_part, max_part}
+use Rattle.replica_store.proofs.PathLemmas.{level_part, min_part, max_part}
 use Rattle.replica_store.proofs.NameLemmas.{ascii_digits}
 
 -- what is to be shown where a text isn't read
@@ -23,6 +23,14 @@ if_none (Some x) text h = tt
 -- the text isn't another one
 pub is_same : (written text : List ℕ) → true ≡ not (bytes_eq written text) → written ≡ text → ⊥
 is_same written text other same = let found : bytes_eq written text ≡ true = (bytes_eq-Decides written text).1 same in absurd (subst (λ b. true ≡ not b → ⊥) (sym found) (λ e. cc) other)
+
+by_answer : {P : Type 0} (b : Bool) → false ≡ not b → (b ≡ true → P) → P
+by_answer true e f = f refl
+by_answer false e f = absurd cc
+
+-- and where it isn't another one, it is that one
+pub are_same : (written text : List ℕ) → false ≡ not (bytes_eq written text) → written ≡ text
+are_same written text same = by_answer (bytes_eq written text) same (bytes_eq-Decides written text).0
 
 pub utf8_digits : (n : ℕ) (digits : List ℕ) → digits ≡ hex_digits n → IsUtf8 digits
 utf8_digits n digits same = subst IsUtf8 (sym same) (IsUtf8-from_ascii (hex_digits n) (ascii_digits n))

@@ -7,7 +7,7 @@ use Rattle.crash_disk.specs.declared.event.Event.TheVariants.{NamesSynced}
 use Rattle.crash_disk.specs.Files.{Files}
 use Rattle.crash_disk.specs.Images.{IsImageOf, IsCrashImage}
 use Rattle.crash_disk.specs.Numbers.{number_at, numbers_at, file_of}
-use Rattle.crash_disk.specs.ReadFiles.{bytes_by, file_at-numbered}
+use Rattle.crash_disk.proofs.ReadFiles.{bytes_by, file_at-numbered}
 use Rattle.replica_store.specs.Putting.{LeavesTheNames}
 
 -- an image of a number is there where the number is

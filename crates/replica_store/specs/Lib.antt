@@ -1,7 +1,7 @@
 pub mod NameText
-pub mod NameLaws
 pub mod Chain
 pub mod Listing
+pub mod ListLaws
 pub mod Retained
 pub mod StoreError
 pub mod Putting
@@ -9,3 +9,4 @@ pub mod FileOf
 pub mod Applying
 pub mod Faithful
 pub mod Dating
+pub mod Given

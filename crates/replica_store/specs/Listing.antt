@@ -2,8 +2,7 @@
 use Rattle.std.specs.Prelude.{◌≡◌, ◌↔◌, ℕ, List, [], ◌∷◌, map, unwrap_or, IsSome, ◌⊎◌}
 use Rattle.std.specs.List.{Contains, IsDistinct, All}
 use Rattle.std.specs.FinMap.{get}
-use Rattle.crash_disk.specs.Files.{Files}
-use Rattle.crash_disk.specs.FileLaws.{is_name}
+use Rattle.crash_disk.specs.Files.{Files, is_name}
 use Rattle.replica_store.specs.declared.file_name.FileName.{FileName}
 use Rattle.replica_store.specs.NameText.{IsName, file_path}
 use Rattle.replica_store.specs.Chain.{IsListOrdered}

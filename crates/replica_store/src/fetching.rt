@@ -1,8 +1,8 @@
 //! Reading a file of the replica whole.
 
-ghost use Rattle.std.specs.Prelude.{◌≡◌, IfOk, IfErr};
+ghost use Rattle.std.specs.Prelude.{◌≡◌, length, IfOk, IfErr, OnErr};
 ghost use Rattle.crash_disk.specs.Files.{files_after};
-ghost use Rattle.crash_disk.specs.Told.{IfTold};
+ghost use Rattle.crash_disk.specs.Told.{IfTold, gives};
 ghost use Rattle.replica_store.specs.Listing.{path_of, bytes_under};
 ghost use Rattle.replica_store.specs.StoreError.{StoreHasCause, BlamesNoFile};
 
@@ -20,6 +20,8 @@ pub fn get<S: Disk>(alloc: Global, store: &mut S, name: &FileName) -> Result<Byt
     ensures blames_no_file { IfErr result BlamesNoFile }
     ensures unchanged { S.told store.new ≡ S.told store.old }
     ensures same_folder { S.folder store.new ≡ S.folder store.old }
+    ensures gave { IfOk result (λ bytes. S.given store.new ≡ gives (S.given store.old) (length bytes)) }
+    ensures gave_none { OnErr result (S.given store.new ≡ S.given store.old) }
     ensures cause { StoreHasCause (S.fault_count store.old) (S.fault_count store.new) result }
 {
     let text = write_name(name);

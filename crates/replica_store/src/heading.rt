@@ -1,10 +1,11 @@
 //! The headers of a replica's files.
 
-ghost use Rattle.std.specs.Prelude.{◌≡◌, IfOk, IfErr};
+ghost use Rattle.std.specs.Prelude.{◌≡◌, ◌*◌, length, IfOk, IfErr};
 ghost use Rattle.crash_disk.specs.Files.{files_after};
 ghost use Rattle.crash_disk.specs.Told.{IfTold};
 ghost use Rattle.replica_store.specs.Chain.{names_of};
 ghost use Rattle.replica_store.specs.Dating.{IsHeaderUnder, AreDated, ExplainsHeader, ExplainsDated};
+ghost use Rattle.replica_store.specs.Given.{GaveAtMost};
 ghost use Rattle.replica_store.specs.StoreError.{StoreHasCause};
 
 use crate::dated_names::{Dated, DatedNames};
@@ -23,6 +24,7 @@ pub fn header_of<S: Disk>(store: &mut S, name: &FileName) -> Result<LtxHeader, S
     ensures explained { IfErr result (ExplainsHeader (S.told store.old) name.now) }
     ensures unchanged { S.told store.new ≡ S.told store.old }
     ensures same_folder { S.folder store.new ≡ S.folder store.old }
+    ensures gave { GaveAtMost 100 (S.given store.old) (S.given store.new) }
     ensures cause { StoreHasCause (S.fault_count store.old) (S.fault_count store.new) result }
 {
     let mut front = [0u8; 100];
@@ -49,6 +51,7 @@ pub fn dated<S: Disk>(
     ensures explained { IfErr result (ExplainsDated (S.told store.old) names.now) }
     ensures unchanged { S.told store.new ≡ S.told store.old }
     ensures same_folder { S.folder store.new ≡ S.folder store.old }
+    ensures gave { GaveAtMost (length names.now * 100) (S.given store.old) (S.given store.new) }
     ensures cause { StoreHasCause (S.fault_count store.old) (S.fault_count store.new) result }
 {
     let mut list = DatedNames::new(alloc);

@@ -2,7 +2,7 @@
 
 ghost use Rattle.std.specs.Prelude.{◌≡◌, IfOk, IfErr};
 ghost use Rattle.crash_disk.specs.Files.{files_after};
-ghost use Rattle.crash_disk.specs.Told.{IfTold};
+ghost use Rattle.crash_disk.specs.Told.{IfTold, Keeps};
 ghost use Rattle.replica_store.specs.Chain.{IsListOrdered};
 ghost use Rattle.replica_store.specs.Listing.{AreListed, AreReadOf};
 ghost use Rattle.replica_store.specs.StoreError.{StoreHasCause, BlamesNoFile};
@@ -38,7 +38,7 @@ pub fn list<S: Disk>(alloc: Global, store: &mut S) -> Result<FileNames, StoreErr
     ensures ordered { IfOk result (λ names. IsListOrdered names) }
     ensures blames_no_file { IfErr result BlamesNoFile }
     ensures unchanged { S.told store.new ≡ S.told store.old }
-    ensures same_folder { S.folder store.new ≡ S.folder store.old }
+    ensures keeps { Keeps (S.folder store.old) (S.folder store.new) (S.given store.old) (S.given store.new) }
     ensures cause { StoreHasCause (S.fault_count store.old) (S.fault_count store.new) result }
 {
     let texts = store.names(alloc)?;

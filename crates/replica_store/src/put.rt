@@ -1,8 +1,8 @@
 //! Putting a file into the replica, so that no crash leaves a part of it.
 
 ghost use Rattle.std.specs.Prelude.{◌≡◌, [], ◌++◌, IfOk, OnOk, OnErr};
-ghost use Rattle.crash_disk.specs.Fault.{HasCause};
-ghost use Rattle.crash_disk.specs.Told.{Told, IfTold};
+ghost use Rattle.ls_base.specs.Fault.{HasCause};
+ghost use Rattle.crash_disk.specs.Told.{Told, IfTold, Keeps};
 ghost use Rattle.crash_disk.specs.Files.{IsThere};
 ghost use Rattle.crash_disk.specs.GoesOn.{GoesOn};
 ghost use Rattle.replica_store.specs.NameText.{file_path};
@@ -40,7 +40,7 @@ impl Put {
         ensures named { IfOk result (λ put. put ≡ file_path name.now.level name.now.min name.now.max) }
         ensures ok { IfOk result (λ put. GoesOn (S.told store.old) (S.told store.new) (IsPutting put [])) }
         ensures err { OnErr result (GoesOn (S.told store.old) (S.told store.new) (KeepsOthers (file_path name.now.level name.now.min name.now.max))) }
-        ensures same_folder { S.folder store.new ≡ S.folder store.old }
+        ensures keeps { Keeps (S.folder store.old) (S.folder store.new) (S.given store.old) (S.given store.new) }
         ensures cause { HasCause (S.fault_count store.old) (S.fault_count store.new) result }
     {
         let draft = DraftText::of(name);
@@ -59,7 +59,7 @@ impl Put {
         ensures same_name { self.new ≡ self.old }
         ensures ok { OnOk result (AfterPutting self.old (S.told store.old) (S.told store.new) (λ written. IsPutting self.old (written ++ bytes.now))) }
         ensures err { OnErr result (AfterPutting self.old (S.told store.old) (S.told store.new) (λ written. KeepsOthers self.old)) }
-        ensures same_folder { S.folder store.new ≡ S.folder store.old }
+        ensures keeps { Keeps (S.folder store.old) (S.folder store.new) (S.given store.old) (S.given store.new) }
         ensures cause { HasCause (S.fault_count store.old) (S.fault_count store.new) result }
     {
         store.append(self.draft.as_str(), bytes)
@@ -71,7 +71,7 @@ impl Put {
         requires there { IfTold (S.told store.old) (λ events. IsThere events (draft_path self)) }
         ensures ok { OnOk result (AfterPutting self (S.told store.old) (S.told store.new) (HasPut self)) }
         ensures err { OnErr result (AfterPutting self (S.told store.old) (S.told store.new) (MayPut self)) }
-        ensures same_folder { S.folder store.new ≡ S.folder store.old }
+        ensures keeps { Keeps (S.folder store.old) (S.folder store.new) (S.given store.old) (S.given store.new) }
         ensures cause { HasCause (S.fault_count store.old) (S.fault_count store.new) result }
     {
         let Put { name, draft } = self;
@@ -84,7 +84,7 @@ impl Put {
     pub fn abandon<S: Disk>(self, store: &mut S) -> Result<(), DiskFault>
         ensures ok { OnOk result (IfTold (S.told store.new) (λ events. IsAbsent events (draft_path self))) }
         ensures kept { (begun : Told) → GoesOn begun (S.told store.old) (KeepsOthers self) → GoesOn begun (S.told store.new) (KeepsOthers self) }
-        ensures same_folder { S.folder store.new ≡ S.folder store.old }
+        ensures keeps { Keeps (S.folder store.old) (S.folder store.new) (S.given store.old) (S.given store.new) }
         ensures cause { HasCause (S.fault_count store.old) (S.fault_count store.new) result }
     {
         let Put { name: _, draft } = self;

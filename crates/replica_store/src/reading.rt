@@ -3,6 +3,8 @@
 ghost use Rattle.std.specs.Prelude.{◌≡◌, ◌≢◌, ◌<◌, ◌^◌, ℕ, Some, IfSome};
 ghost use Rattle.std.specs.Option.{IfNone};
 ghost use Rattle.ls_base.specs.Txid.{hex_digits};
+ghost use Rattle.replica_store.specs.declared.file_name.FileName.{FileName};
+ghost use Rattle.replica_store.specs.Listing.{IsValid, path_of};
 ghost use Rattle.replica_store.specs.NameText.{IsName, file_path};
 
 use crate::file_name::FileName;
@@ -19,10 +21,12 @@ fn txid_of(digits: &[u8]) -> Option<Txid>
 }
 
 /// The name that the text writes: `ltx/`, the level, `/`, the first transaction, `-`, the last, `.ltx`, the
-/// transactions in 16 lower-case hexadecimal digits. `None` exactly for any other text.
+/// transactions in 16 lower-case hexadecimal digits. What `write_name` wrote is read as that name. `None` exactly for
+/// any other text.
 pub fn read_name(text: &str) -> Option<FileName>
     ensures found { IfSome result (λ name. text.now ≡ file_path name.level name.min name.max) }
     ensures valid { IfSome result (λ name. IsName name.level name.min name.max) }
+    ensures written { (name : FileName) → IsValid name → text.now ≡ path_of name → result ≡ Some name }
     ensures only { IfNone result ((level min max : ℕ) → IsName level min max → text.now ≢ file_path level min max) }
 {
     let bytes = text.as_bytes();

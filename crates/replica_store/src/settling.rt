@@ -1,8 +1,9 @@
 //! Making the names of a replica stay, and dropping one.
 
 ghost use Rattle.std.specs.Prelude.{◌≡◌, OnOk, OnErr};
-ghost use Rattle.crash_disk.specs.Fault.{HasCause};
+ghost use Rattle.ls_base.specs.Fault.{HasCause};
 ghost use Rattle.crash_disk.specs.GoesOn.{GoesOn};
+ghost use Rattle.crash_disk.specs.Told.{Keeps};
 ghost use Rattle.replica_store.specs.NameText.{file_path};
 ghost use Rattle.replica_store.specs.Putting.{HasSyncedNames, HasDropped, MayDrop};
 
@@ -14,7 +15,7 @@ use crash_disk::{Disk, DiskFault};
 pub fn settle<S: Disk>(store: &mut S) -> Result<(), DiskFault>
     ensures ok { OnOk result (GoesOn (S.told store.old) (S.told store.new) HasSyncedNames) }
     ensures err { OnErr result (S.told store.new ≡ S.told store.old) }
-    ensures same_folder { S.folder store.new ≡ S.folder store.old }
+    ensures keeps { Keeps (S.folder store.old) (S.folder store.new) (S.given store.old) (S.given store.new) }
     ensures cause { HasCause (S.fault_count store.old) (S.fault_count store.new) result }
 {
     store.sync_names()
@@ -25,7 +26,7 @@ pub fn settle<S: Disk>(store: &mut S) -> Result<(), DiskFault>
 pub fn drop_file<S: Disk>(store: &mut S, name: &FileName) -> Result<(), DiskFault>
     ensures ok { OnOk result (GoesOn (S.told store.old) (S.told store.new) (HasDropped (file_path name.now.level name.now.min name.now.max))) }
     ensures err { OnErr result (GoesOn (S.told store.old) (S.told store.new) (MayDrop (file_path name.now.level name.now.min name.now.max))) }
-    ensures same_folder { S.folder store.new ≡ S.folder store.old }
+    ensures keeps { Keeps (S.folder store.old) (S.folder store.new) (S.given store.old) (S.given store.new) }
     ensures cause { HasCause (S.fault_count store.old) (S.fault_count store.new) result }
 {
     store.remove(write_name(name).as_str())

@@ -1,5 +1,5 @@
 use Rattle.std.proofs.Common.{sym, ap, ◌∙◌, length}
-use Rattle.replica_store.specs.NameLaws.{length-file_path}
+use Rattle.replica_store.proofs.PathLemmas.{length-file_path}
 use Rattle.replica_store.proofs.draft.bytes_of.Goals as goal
 
 pub copy_from_slice-requires : goal.copy_from_slice-requires

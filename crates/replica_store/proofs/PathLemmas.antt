@@ -1,9 +1,14 @@
--- What follows from the rule of names.
+-- The parts of a path, and that a path is that of one name.
 use Rattle.std.proofs.Common.{◌≡◌, ℕ, ◌+◌, ◌^◌, ◌<◌, length, get_or, Some, refl, sym, ap, ◌∙◌, arith}
+use mathlib.Core.HLevel.{is_prop→PathP}
+use Rattle.std.proofs.Props.{props}
 use Rattle.std.specs.List.{slice_range}
+use Rattle.std.specs.Prelude.{◌≤◌, IsTrue}
 use Rattle.ls_base.specs.Txid.{hex_digits, txid_of}
 use Rattle.ls_base.specs.TxidLaws.{txid_of-hex_digits}
-use Rattle.replica_store.specs.NameText.{IsName, file_path}
+use Rattle.replica_store.specs.declared.file_name.FileName.{FileName}
+use Rattle.replica_store.specs.Listing.{path_of, IsValid}
+use Rattle.replica_store.specs.NameText.{is_level, IsName, file_path}
 
 pub length-file_path : (level min max : ℕ) → length (file_path level min max) ≡ 43
 unfolding file_path hex_digits
@@ -36,3 +41,29 @@ one_name l m x l' m' x' is is' same =
       same_number m m' (omega (arith, is.from_first)) (omega (arith, is.in_order, is.max_fits)) (omega (arith, is'.from_first)) (omega (arith, is'.in_order, is'.max_fits)) min,
       same_number x x' (omega (arith, is.from_first, is.in_order)) is.max_fits (omega (arith, is'.from_first, is'.in_order)) is'.max_fits max,
     )
+
+known_prop : (level : ℕ) → IsProp (IsTrue (is_level level))
+known_prop level = hlevel props
+
+order_prop : (min max : ℕ) → IsProp (min ≤ max)
+order_prop min max = hlevel props
+
+first_prop : (level min : ℕ) → IsProp (level ≡ 9 → min ≡ 1)
+first_prop level min = hlevel props
+
+-- names of the same parts are one
+pub same_parts : (x y : FileName) → x.level ≡ y.level → x.min ≡ y.min → x.max ≡ y.max → x ≡ y
+same_parts x y level min max = λ i. record {
+  level = level i;
+  min = min i;
+  max = max i;
+  on_level = is_prop→PathP (λ j. IsTrue (is_level (level j))) (λ j. known_prop (level j)) x.on_level y.on_level i;
+  in_order = is_prop→PathP (λ j. min j ≤ max j) (λ j. order_prop (min j) (max j)) x.in_order y.in_order i;
+  from_first = is_prop→PathP (λ j. level j ≡ 9 → min j ≡ 1) (λ j. first_prop (level j) (min j)) x.from_first y.from_first i;
+}
+
+-- and so are valid names of one path
+pub one_file_name : (x y : FileName) → IsValid x → IsValid y → path_of x ≡ path_of y → x ≡ y
+one_file_name x y valid-x valid-y same =
+    let parts = one_name x.level x.min x.max y.level y.min y.max valid-x valid-y same in
+    same_parts x y parts.0 parts.1 parts.2
