@@ -102,7 +102,7 @@ module _ (h : WalHeader) (log : List ℕ) (long : 32 ≤ length log) where
     pub enough : length front ≤ many
     enough = omega (arith, length-whole_frames, ap (λ (xs : List (List ℕ)). length xs) split, length-append front behind)
 
-    chunks_in_front : first_chunks (frame_length h) (length front) (drop 32 log) ≡ front
+    pub chunks_in_front : first_chunks (frame_length h) (length front) (drop 32 log) ≡ front
     unfolding whole_frames many
     chunks_in_front =
         let n = frame_length h in

@@ -1,12 +1,15 @@
-mod HeaderLemmas
-mod FrameLemmas
-mod WrittenLemmas
-mod ChunkLemmas
-mod PrefixLemmas
-mod AcceptedLemmas
-mod CutLemmas
-mod CheckedLemmas
-mod TakenLemmas
-mod BackLemmas
+pub mod HeaderLemmas
+pub mod FrameLemmas
+pub mod WrittenLemmas
+pub mod ChunkLemmas
+pub mod PrefixLemmas
+pub mod AcceptedLemmas
+pub mod CutLemmas
+pub mod CheckedLemmas
+pub mod MarkLemmas
+pub mod TakenLemmas
+pub mod BackLemmas
+pub mod LongestLemmas
+pub mod LogLemmas
 mod StandardFacts
-mod LongestLemmas
+pub mod ViewLemmas

@@ -4,7 +4,6 @@ use Rattle.std.specs.Option.{option_or}
 use Rattle.std.specs.List.{flat_map}
 use Rattle.std.proofs.lemmas.Grind.{flat_map-append}
 use Rattle.std.proofs.lemmas.List.{length-take-le}
-use Rattle.ls_base.specs.declared.mark.Mark.{Mark}
 use Rattle.ls_sums.specs.declared.wal_sum.WalSum.{WalSum}
 use Rattle.ls_sums.specs.WalSum.{words, after_words}
 use Rattle.ls_sums.proofs.PairLemmas.{after_words-append}
@@ -12,7 +11,7 @@ use Rattle.wal_frames.specs.declared.header.WalHeader.{WalHeader}
 use Rattle.wal_frames.specs.declared.fault.NotValid.{NotValid}
 use Rattle.wal_frames.specs.WalFormat.{sums_of}
 use Rattle.wal_frames.specs.WalFrame.{frame_length, summed_part, sums_after}
-use Rattle.wal_frames.specs.ValidPrefix.{prefix_sums, fault_behind, if_valid, valid_behind, stop_behind, last_mark_behind, mark_of, mark_after, last_mark}
+use Rattle.wal_frames.specs.ValidPrefix.{prefix_sums, fault_behind, if_valid, valid_behind, stop_behind}
 use Rattle.wal_frames.proofs.ChunkLemmas.{AreLong}
 
 -- ---- the sums of a prefix, and of one frame more
@@ -142,14 +141,3 @@ module _ (front : List ℕ) (h : WalHeader) where
 
   pub stop-rest : (before : List (List ℕ)) (frame : List ℕ) (frames : List (List ℕ)) → stop_behind front h before (frame ∷ frames) ≡ None → stop_behind front h (before ++ frame ∷ []) frames ≡ None
   stop-rest before frame frames none = rest_none (stop_behind front h (before ++ frame ∷ []) frames) (fault_behind front h before frame) none
-
-  pub last-more : (before : List (List ℕ)) (last : Option Mark) (frames others : List (List ℕ)) → last_mark_behind h before last (frames ++ others) ≡ last_mark_behind h (before ++ frames) (last_mark_behind h before last frames) others
-  last-more before last [] others = rw (append-nil before) refl
-  last-more before last (frame ∷ frames) others =
-      let now = mark_after last (mark_of h before frame) in
-      last-more (before ++ frame ∷ []) now frames others
-      ∙ ap (λ (passed : List (List ℕ)). last_mark_behind h passed (last_mark_behind h (before ++ frame ∷ []) now frames) others) (grouped before frame frames)
-
-  pub last_mark-more : (frames : List (List ℕ)) (frame : List ℕ) → last_mark h (frames ++ frame ∷ []) ≡ mark_after (last_mark h frames) (mark_of h frames frame)
-  unfolding last_mark
-  last_mark-more frames frame = last-more [] None frames (frame ∷ [])

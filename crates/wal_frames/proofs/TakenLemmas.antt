@@ -1,5 +1,6 @@
 -- What a scan has found after one piece more.
 use Rattle.std.proofs.Common.{◌≡◌, ◌∙◌, ℕ, ◌+◌, ◌-◌, ◌*◌, ◌<◌, true, false, List, [], ◌∷◌, ◌++◌, length, take, drop, Option, Some, None, Ok, sym, ap, subst, refl, arith, length-append, append-nil}
+use Rattle.std.specs.List.{last_or}
 use Rattle.std.specs.Option.{is_some}
 use Rattle.std.proofs.lemmas.List.{take-append-le, drop-append-le, drop_all, length-take-le}
 use Rattle.ls_base.specs.declared.mark.Mark.{Mark}
@@ -9,16 +10,15 @@ use Rattle.wal_frames.specs.declared.fault.NotValid.{NotValid}
 use Rattle.wal_frames.specs.declared.frame.Frame.TheVariants.{Valid, Not}
 use Rattle.wal_frames.specs.WalFormat.{read_header, sums_at}
 use Rattle.wal_frames.specs.WalFrame.{frame_length, summed_part, sums_after, frame_fault, checked}
-use Rattle.wal_frames.specs.ValidPrefix.{prefix_sums, fault_behind, if_valid, stop_behind, whole_frames, frames_under, stop_under, valid_frames, end_of, mark_with, mark_of, mark_after, last_mark}
+use Rattle.wal_frames.specs.ValidPrefix.{prefix_sums, fault_behind, if_valid, stop_behind, whole_frames, frames_under, stop_under, valid_frames}
+use Rattle.wal_frames.specs.Marks.{end_of, mark_with, mark_of, marks_behind, last_mark_of}
 use Rattle.wal_frames.specs.Scanned.{Scanned, HasTaken, held_behind, EndsFrame}
 use Rattle.wal_frames.proofs.FrameLemmas.{size_in_eights}
 use Rattle.wal_frames.proofs.AcceptedLemmas.{Accepts, accepts, read_header-append}
 use Rattle.wal_frames.proofs.CutLemmas.{many, rest, rest_is, length-rest, length-whole_frames, whole_frames-long, whole_frames-part, whole_frames-more, whole_frames-grow}
-use Rattle.wal_frames.proofs.PrefixLemmas.{prefix_sums-more, valid-all, valid-more, stop-more, valid-stopped, stop-stopped, last_mark-more}
+use Rattle.wal_frames.proofs.PrefixLemmas.{prefix_sums-more, valid-all, valid-more, stop-more, valid-stopped, stop-stopped}
+use Rattle.wal_frames.proofs.MarkLemmas.{valid_is, mark_after, last_is, last-more}
 use Rattle.wal_frames.proofs.CheckedLemmas.{says_valid, says_not, sums_stored, fault_running}
-
-pub valid_is : (log : List ℕ) (h : WalHeader) → read_header log ≡ Ok h → valid_frames log ≡ frames_under h log
-valid_is log h e = rw e refl
 
 -- what a scan keeps, field by field
 pub same_scan : (a b : Scanned) → a.head ≡ b.head → a.taken ≡ b.taken → a.end ≡ b.end → a.sums ≡ b.sums → a.held ≡ b.held → a.last ≡ b.last → a.stopped ≡ b.stopped → a ≡ b
@@ -99,6 +99,9 @@ module _ (old : Scanned) (log : List ℕ) (t : HasTaken old log) where
     longer : old.taken + length x ≡ length (log ++ x) - 32
     longer = let long = a.long in omega (arith, t.is_taken, length-append log x)
 
+    same_last : frames_under old.head (log ++ x) ≡ frames_under old.head log → last_mark_of log ≡ last_mark_of (log ++ x)
+    same_last same = last_is log old.head (frames_under old.head log) t.accepted refl ∙ sym (last_is (log ++ x) old.head (frames_under old.head log) grown same)
+
     same_valid : SamePrefix old.head log (log ++ x) → valid_frames (log ++ x) ≡ valid_frames log
     same_valid same = valid_is (log ++ x) old.head grown ∙ same.frames ∙ sym (valid_is log old.head t.accepted)
 
@@ -119,7 +122,7 @@ module _ (old : Scanned) (log : List ℕ) (t : HasTaken old log) where
             is_end = t.is_end ∙ ap (end_of old.head) (sym same.frames);
             is_sums = rw (same.frames, same_front old.head log a x) t.is_sums;
             is_held = rw (same.stop, stop) (t.is_held ∙ ap (λ (s : Option NotValid). held_behind s (drop (end_of old.head (frames_under old.head log)) log)) stop);
-            is_last = t.is_last ∙ ap (last_mark old.head) (sym same.frames);
+            is_last = t.is_last ∙ same_last same.frames;
             is_stopped = t.is_stopped ∙ sym same.stop;
           },
           same_valid same,
@@ -137,7 +140,7 @@ module _ (old : Scanned) (log : List ℕ) (t : HasTaken old log) where
             is_end = t.is_end ∙ ap (end_of old.head) (sym same.frames);
             is_sums = rw (same.frames, same_front old.head log a x) t.is_sums;
             is_held = rw (same.stop, stop, same.frames) (held_more none);
-            is_last = t.is_last ∙ ap (last_mark old.head) (sym same.frames);
+            is_last = t.is_last ∙ same_last same.frames;
             is_stopped = t.is_stopped ∙ sym same.stop;
           },
           same_valid same,
@@ -189,7 +192,7 @@ module _ (old : Scanned) (log : List ℕ) (t : HasTaken old log) where
             is_end = t.is_end ∙ ap (end_of old.head) (sym frames);
             is_sums = rw (frames, same_front old.head log a x) t.is_sums;
             is_held = rw stop refl;
-            is_last = t.is_last ∙ ap (last_mark old.head) (sym frames);
+            is_last = t.is_last ∙ same_last frames;
             is_stopped = sym stop;
           },
           valid_is (log ++ x) old.head grown ∙ frames ∙ sym (valid_is log old.head t.accepted),
@@ -227,9 +230,10 @@ module _ (old : Scanned) (log : List ℕ) (t : HasTaken old log) where
         let mark : mark_with old.head (old.end + size) after commit ≡ mark_of old.head before frame =
         ap (λ (n : ℕ). mark_with old.head n after commit) ends ∙ ap (λ (s : WalSum). mark_with old.head (end_of old.head (before ++ frame ∷ [])) s commit) stored
         ∙ ap (λ (n : ℕ). mark_with old.head (end_of old.head (before ++ frame ∷ [])) (sums_at frame 16) n) says.is_commit in
-        let last : mark_after old.last (mark_with old.head (old.end + size) after commit) ≡ last_mark old.head (before ++ frame ∷ []) =
-        ap (λ (m : Mark). mark_after old.last m) mark ∙ ap (λ (l : Option Mark). mark_after l (mark_of old.head before frame)) (t.is_last ∙ ap (last_mark old.head) (all_valid none))
-        ∙ sym (last_mark-more front old.head before frame) in
+        let last : mark_after old.last (mark_with old.head (old.end + size) after commit) ≡ last_or None (marks_behind old.head [] (before ++ frame ∷ [])) =
+        ap (λ (m : Mark). mark_after old.last m) mark
+        ∙ ap (λ (l : Option Mark). mark_after l (mark_of old.head before frame)) (t.is_last ∙ last_is log old.head before t.accepted (all_valid none))
+        ∙ sym (last-more old.head before frame) in
         let behind : drop (end_of old.head (before ++ frame ∷ [])) (log ++ x) ≡ [] = drop_all _ (log ++ x) (omega (arith, ends, whole_log)) in (
           record {
             accepted = grown;
@@ -237,7 +241,7 @@ module _ (old : Scanned) (log : List ℕ) (t : HasTaken old log) where
             is_end = ends ∙ ap (end_of old.head) (sym frames);
             is_sums = rw (frames, same_front old.head log a x) sums;
             is_held = rw (stop, frames) (sym behind);
-            is_last = rw frames last;
+            is_last = last ∙ sym (last_is (log ++ x) old.head (before ++ frame ∷ []) grown frames);
             is_stopped = none ∙ sym stop;
           },
           record {

@@ -9,7 +9,7 @@ use Rattle.ls_sums.specs.declared.order.Order.TheVariants.{Little, Big}
 use Rattle.ls_sums.specs.declared.wal_sum.WalSum.{WalSum}
 use Rattle.wal_frames.specs.declared.header.WalHeader.{WalHeader}
 use Rattle.wal_frames.specs.declared.frame.Frame.TheVariants.{Valid}
-use Rattle.wal_frames.specs.WalFormat.{number_at, header_front, header_bytes, HasSums, magic, order_of, read_behind_magic, read_header}
+use Rattle.wal_frames.specs.WalFormat.{field_at, header_front, wal_header_bytes, HasSums, magic, order_of, read_behind_magic, read_header}
 use Rattle.wal_frames.specs.WalFrame.{frame_front, frame_bytes, summed_part, sums_after, checked}
 
 -- each number of the header fits four bytes
@@ -32,54 +32,54 @@ order_of-magic Big = refl
 
 module _ (h : WalHeader) where
   bytes : List ℕ
-  bytes = header_bytes h
+  bytes = wal_header_bytes h
 
-  magic_read : number_at bytes 0 ≡ magic h.order
-  unfolding bytes number_at header_bytes header_front
+  magic_read : field_at bytes 0 ≡ magic h.order
+  unfolding bytes field_at wal_header_bytes header_front
   magic_read = big_number-reads_back 4 (magic h.order) (drop 4 bytes) (magic_fits h.order)
 
-  version_read : number_at bytes 4 ≡ 3007000
-  unfolding bytes number_at header_bytes header_front
+  version_read : field_at bytes 4 ≡ 3007000
+  unfolding bytes field_at wal_header_bytes header_front
   version_read = refl
 
   front_read : take 24 bytes ≡ header_front h
-  unfolding bytes header_bytes header_front
+  unfolding bytes wal_header_bytes header_front
   front_read = refl
 
   module _ (fits : FitsHeader h) where
-    size_read : number_at bytes 8 ≡ h.size
-    unfolding bytes number_at header_bytes header_front
+    size_read : field_at bytes 8 ≡ h.size
+    unfolding bytes field_at wal_header_bytes header_front
     size_read = big_number-reads_back 4 h.size (drop 12 bytes) fits.small
 
-    seq_read : number_at bytes 12 ≡ h.seq
-    unfolding bytes number_at header_bytes header_front
+    seq_read : field_at bytes 12 ≡ h.seq
+    unfolding bytes field_at wal_header_bytes header_front
     seq_read = big_number-reads_back 4 h.seq (drop 16 bytes) fits.seq
 
-    salt1_read : number_at bytes 16 ≡ h.salt1
-    unfolding bytes number_at header_bytes header_front
+    salt1_read : field_at bytes 16 ≡ h.salt1
+    unfolding bytes field_at wal_header_bytes header_front
     salt1_read = big_number-reads_back 4 h.salt1 (drop 20 bytes) fits.salt1
 
-    salt2_read : number_at bytes 20 ≡ h.salt2
-    unfolding bytes number_at header_bytes header_front
+    salt2_read : field_at bytes 20 ≡ h.salt2
+    unfolding bytes field_at wal_header_bytes header_front
     salt2_read = big_number-reads_back 4 h.salt2 (drop 24 bytes) fits.salt2
 
-    s0_read : number_at bytes 24 ≡ h.s0
-    unfolding bytes number_at header_bytes header_front
+    s0_read : field_at bytes 24 ≡ h.s0
+    unfolding bytes field_at wal_header_bytes header_front
     s0_read = big_number-reads_back 4 h.s0 (drop 28 bytes) fits.s0
 
-    s1_read : number_at bytes 28 ≡ h.s1
-    unfolding bytes number_at header_bytes header_front
+    s1_read : field_at bytes 28 ≡ h.s1
+    unfolding bytes field_at wal_header_bytes header_front
     s1_read = big_number-reads_back 4 h.s1 (drop 32 bytes) fits.s1
 
     long : length bytes ≡ 32
-    unfolding bytes header_bytes header_front
+    unfolding bytes wal_header_bytes header_front
     long = refl
 
     behind_magic : HasSums h → read_behind_magic (Some h.order) bytes ≡ Ok h
     behind_magic sums =
         rw (version_read, size_read, test_passes h.size fits.size, front_read, sums, s0_read, s1_read, eq-eqb h.s0 h.s0 refl, eq-eqb h.s1 h.s1 refl, seq_read, salt1_read, salt2_read) refl
 
-    pub header_reads_back : HasSums h → read_header (header_bytes h) ≡ Ok h
+    pub header_reads_back : HasSums h → read_header (wal_header_bytes h) ≡ Ok h
     unfolding read_header bytes
     header_reads_back sums = rw (long, magic_read, order_of-magic h.order) (behind_magic sums)
 
@@ -101,28 +101,28 @@ module _ (h : WalHeader) (sums : WalSum) (number commit : ℕ) (page : List ℕ)
   part_read = refl
 
   module _ (fits : FitsFrame h sums number commit) where
-    number_read : number_at frame 0 ≡ number
-    unfolding frame number_at frame_bytes
+    number_read : field_at frame 0 ≡ number
+    unfolding frame field_at frame_bytes
     number_read = big_number-reads_back 4 number (drop 4 frame) fits.number_small
 
-    commit_read : number_at frame 4 ≡ commit
-    unfolding frame number_at frame_bytes
+    commit_read : field_at frame 4 ≡ commit
+    unfolding frame field_at frame_bytes
     commit_read = big_number-reads_back 4 commit (drop 8 frame) fits.commit_small
 
-    frame_salt1_read : number_at frame 8 ≡ h.salt1
-    unfolding frame number_at frame_bytes
+    frame_salt1_read : field_at frame 8 ≡ h.salt1
+    unfolding frame field_at frame_bytes
     frame_salt1_read = big_number-reads_back 4 h.salt1 (drop 12 frame) fits.salt1
 
-    frame_salt2_read : number_at frame 12 ≡ h.salt2
-    unfolding frame number_at frame_bytes
+    frame_salt2_read : field_at frame 12 ≡ h.salt2
+    unfolding frame field_at frame_bytes
     frame_salt2_read = big_number-reads_back 4 h.salt2 (drop 16 frame) fits.salt2
 
-    frame_s0_read : number_at frame 16 ≡ sums.s0
-    unfolding frame number_at frame_bytes
+    frame_s0_read : field_at frame 16 ≡ sums.s0
+    unfolding frame field_at frame_bytes
     frame_s0_read = big_number-reads_back 4 sums.s0 (drop 20 frame) fits.s0
 
-    frame_s1_read : number_at frame 20 ≡ sums.s1
-    unfolding frame number_at frame_bytes
+    frame_s1_read : field_at frame 20 ≡ sums.s1
+    unfolding frame field_at frame_bytes
     frame_s1_read = big_number-reads_back 4 sums.s1 (drop 24 frame) fits.s1
 
     pub frame_is_valid : (before : WalSum) → number ≢ 0 → sums ≡ sums_after h.order before (frame_front number commit ++ page) → checked h before (frame_bytes h sums number commit page) ≡ Valid number commit sums

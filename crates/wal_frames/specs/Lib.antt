@@ -1,7 +1,10 @@
 pub mod WalFormat
 pub mod WalFrame
 pub mod ValidPrefix
+pub mod Marks
 pub mod Scanned
 pub mod PartState
 pub mod View
-pub mod LongestPrefix
+pub mod PrefixLaws
+pub mod LogLaws
+pub mod ViewLaws

@@ -1,5 +1,5 @@
 -- What a scan of a log has found in the bytes that it took.
-use Rattle.std.specs.Prelude.{◌≡◌, ℕ, ◌+◌, ◌-◌, ◌≤◌, List, [], ◌∷◌, ◌++◌, length, take, drop, Option, Some, None, Ok, IsOkAnd}
+use Rattle.std.specs.Prelude.{◌≡◌, ℕ, ◌+◌, ◌-◌, ◌≤◌, List, [], ◌∷◌, ◌++◌, length, take, drop, Option, Some, None, Ok}
 use Rattle.ls_base.specs.declared.mark.Mark.{Mark}
 use Rattle.ls_sums.specs.declared.wal_sum.WalSum.{WalSum}
 use Rattle.wal_frames.specs.declared.header.WalHeader.{WalHeader}
@@ -8,7 +8,8 @@ use Rattle.wal_frames.specs.declared.fed.Fed.{Fed}
 use Rattle.wal_frames.specs.declared.fed.Fed.TheVariants.{All, Frame}
 use Rattle.wal_frames.specs.WalFormat.{read_header}
 use Rattle.wal_frames.specs.WalFrame.{page_number, commit_size}
-use Rattle.wal_frames.specs.ValidPrefix.{prefix_sums, frames_under, stop_under, if_accepted, valid_frames, end_of, last_mark, IsMarkOf}
+use Rattle.wal_frames.specs.ValidPrefix.{prefix_sums, frames_under, stop_under, if_accepted, valid_frames}
+use Rattle.wal_frames.specs.Marks.{end_of, last_mark_of}
 
 -- what a scan keeps
 pub record Scanned : Type 0 where
@@ -35,20 +36,12 @@ pub record HasTaken (s : Scanned) (log : List ℕ) : Type 0 where
   pub is_end : s.end ≡ end_of s.head (frames_under s.head log)
   pub is_sums : s.sums ≡ prefix_sums (take 24 log) s.head (frames_under s.head log)
   pub is_held : s.held ≡ held_behind (stop_under s.head log) (drop (end_of s.head (frames_under s.head log)) log)
-  pub is_last : s.last ≡ last_mark s.head (frames_under s.head log)
+  pub is_last : s.last ≡ last_mark_of log
   pub is_stopped : s.stopped ≡ stop_under s.head log
-
--- the last mark of a log's valid prefix
-abbrev pub last_mark_of : List ℕ → Option Mark
-last_mark_of log = if_accepted (read_header log) (λ h. last_mark h (frames_under h log)) None
 
 -- the fault of the first whole frame behind a log's valid prefix
 abbrev pub stop_of : List ℕ → Option NotValid
 stop_of log = if_accepted (read_header log) (λ h. stop_under h log) None
-
--- the mark is one of the log's valid prefix
-abbrev pub IsMark : List ℕ → Mark → Type 0
-IsMark log mark = IsOkAnd (read_header log) (λ h. IsMarkOf h (frames_under h log) mark)
 
 -- one more frame of the valid prefix ends with these bytes, and says this
 pub record EndsFrame (before after : List ℕ) (number commit end : ℕ) : Type 0 where
@@ -59,11 +52,11 @@ pub record EndsFrame (before after : List ℕ) (number commit end : ℕ) : Type 
   pub is_end : end ≡ length after
 
 -- What `feed` did. `All`: it took the whole piece, and no frame of the valid prefix ends in it. `Frame`: it
--- took the piece up to the first such end.
+-- took the piece up to the first such end, which is the end of the prefix from then on.
 abbrev pub Feeds : Scanned → Scanned → List ℕ → Fed → Type 0
 Feeds old new piece All =
     (new.taken ≡ old.taken + length piece)
     × ((log : List ℕ) → HasTaken old log → HasTaken new (log ++ piece) × (valid_frames (log ++ piece) ≡ valid_frames log))
 Feeds old new piece (Frame taken number commit end) =
-    (1 ≤ taken) × (taken ≤ length piece) × (new.taken ≡ old.taken + taken)
+    (1 ≤ taken) × (taken ≤ length piece) × (new.taken ≡ old.taken + taken) × (end ≡ new.end)
     × ((log : List ℕ) → HasTaken old log → HasTaken new (log ++ take taken piece) × EndsFrame log (log ++ take taken piece) number commit end)

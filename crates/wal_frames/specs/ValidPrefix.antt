@@ -1,15 +1,14 @@
 -- The frames of a log that are valid: SQLite database file format, sections 4.1 and 4.2.
-use Rattle.std.specs.Prelude.{◌≡◌, ◌≢◌, ℕ, ◌+◌, ◌-◌, ◌*◌, ◌/◌, ◌==◌, if◌then◌else◌, List, [], ◌∷◌, ◌++◌, length, take, drop, Option, Some, None, Result, Ok, Err}
+use Rattle.std.specs.Prelude.{ℕ, ◌-◌, ◌/◌, List, [], ◌∷◌, ◌++◌, length, take, drop, Option, Some, None, Result, Ok, Err}
 use Rattle.std.specs.Option.{option_or}
 use Rattle.std.specs.List.{flat_map}
 use Rattle.std.specs.Simd.{first_chunks}
-use Rattle.ls_base.specs.declared.mark.Mark.{Mark}
 use Rattle.ls_sums.specs.declared.wal_sum.WalSum.{WalSum}
 use Rattle.wal_frames.specs.declared.header.WalHeader.{WalHeader}
 use Rattle.wal_frames.specs.declared.fault.NotValid.{NotValid}
 use Rattle.wal_frames.specs.declared.fault.WalHeaderFault.{WalHeaderFault}
-use Rattle.wal_frames.specs.WalFormat.{sums_at, sums_of, read_header}
-use Rattle.wal_frames.specs.WalFrame.{frame_length, commit_size, summed_part, frame_fault}
+use Rattle.wal_frames.specs.WalFormat.{sums_of, read_header}
+use Rattle.wal_frames.specs.WalFrame.{frame_length, summed_part, frame_fault}
 
 -- ---- the valid prefix of a log, whose first 24 bytes are `front`
 
@@ -63,41 +62,3 @@ if_accepted (Err fault) value otherwise = otherwise
 -- the valid prefix of the log: no frame where its header is refused
 abbrev pub valid_frames : List ℕ → List (List ℕ)
 valid_frames log = if_accepted (read_header log) (λ h. frames_under h log) []
-
--- ---- commit marks
-
--- the end of the last of these frames
-abbrev pub end_of : WalHeader → List (List ℕ) → ℕ
-end_of h frames = 32 + length frames * frame_length h
-
--- the mark at an end, with the running sums there
-abbrev pub mark_with : WalHeader → ℕ → WalSum → ℕ → Mark
-mark_with h end sums commit =
-    record { salt1 = h.salt1; salt2 = h.salt2; end = end; s0 = sums.s0; s1 = sums.s1; commit = commit }
-
--- the mark of a frame behind those
-abbrev pub mark_of : WalHeader → List (List ℕ) → List ℕ → Mark
-mark_of h before frame = mark_with h (end_of h (before ++ frame ∷ [])) (sums_at frame 16) (commit_size frame)
-
--- the mark is that of one of the valid frames that commits
-pub record IsMarkOf (h : WalHeader) (frames : List (List ℕ)) (mark : Mark) : Type 0 where
-  pub before : List (List ℕ)
-  pub frame : List ℕ
-  pub behind : List (List ℕ)
-  pub split : frames ≡ before ++ frame ∷ behind
-  pub commits : commit_size frame ≢ 0
-  pub is : mark ≡ mark_of h before frame
-
--- the last mark after a frame whose mark this is, if it commits
-abbrev pub mark_after : Option Mark → Mark → Option Mark
-mark_after last mark = if mark.commit == 0 then last else Some mark
-
--- the mark of the last of the frames that commits, where they stand behind others whose last mark is `last`
-abbrev pub last_mark_behind : WalHeader → List (List ℕ) → Option Mark → List (List ℕ) → Option Mark
-last_mark_behind h before last [] = last
-last_mark_behind h before last (frame ∷ frames) =
-    last_mark_behind h (before ++ frame ∷ []) (mark_after last (mark_of h before frame)) frames
-
--- the mark of the last of the frames that commits
-unfoldable pub last_mark : WalHeader → List (List ℕ) → Option Mark
-last_mark h frames = last_mark_behind h [] None frames

@@ -12,12 +12,12 @@ use Rattle.wal_frames.specs.declared.fault.WalHeaderFault.{WalHeaderFault}
 use Rattle.wal_frames.specs.declared.fault.WalHeaderFault.TheVariants.{Short, BadMagic, BadVersion, BadSize, BadSum}
 
 -- the number in the four bytes from `at` on
-unfoldable pub number_at : List ℕ → ℕ → ℕ
-number_at bytes at = big_number 4 (drop at bytes)
+unfoldable pub field_at : List ℕ → ℕ → ℕ
+field_at bytes at = big_number 4 (drop at bytes)
 
 -- two numbers, one behind the other, as sums
 abbrev pub sums_at : List ℕ → ℕ → WalSum
-sums_at bytes at = record { s0 = number_at bytes at; s1 = number_at bytes (at + 4) }
+sums_at bytes at = record { s0 = field_at bytes at; s1 = field_at bytes (at + 4) }
 
 abbrev pub are_same : WalSum → WalSum → Bool
 are_same a b = a.s0 == b.s0 && a.s1 == b.s1
@@ -42,8 +42,8 @@ header_front h =
     ++ big_bytes 4 h.salt1 ++ big_bytes 4 h.salt2
 
 -- the header's 32 bytes
-unfoldable pub header_bytes : WalHeader → List ℕ
-header_bytes h = header_front h ++ big_bytes 4 h.s0 ++ big_bytes 4 h.s1
+unfoldable pub wal_header_bytes : WalHeader → List ℕ
+wal_header_bytes h = header_front h ++ big_bytes 4 h.s0 ++ big_bytes 4 h.s1
 
 abbrev pub HasSums : WalHeader → Type 0
 HasSums h = sums_of h.order (header_front h) ≡ record { s0 = h.s0; s1 = h.s1 }
@@ -67,23 +67,23 @@ pub record FitsFront (h : WalHeader) : Type 0 where
 abbrev pub header_in : Order → List ℕ → WalHeader
 header_in order bytes = record {
   order = order;
-  size = number_at bytes 8;
-  seq = number_at bytes 12;
-  salt1 = number_at bytes 16;
-  salt2 = number_at bytes 20;
-  s0 = number_at bytes 24;
-  s1 = number_at bytes 28;
+  size = field_at bytes 8;
+  seq = field_at bytes 12;
+  salt1 = field_at bytes 16;
+  salt2 = field_at bytes 20;
+  s0 = field_at bytes 24;
+  s1 = field_at bytes 28;
 }
 
 -- the tests behind the magic
 abbrev pub read_behind_magic : Option Order → List ℕ → Result WalHeader WalHeaderFault
 read_behind_magic None bytes = Err BadMagic
 read_behind_magic (Some order) bytes =
-    if not (number_at bytes 4 == 3007000) then Err BadVersion
-    else if not (is_page_size (number_at bytes 8)) then Err BadSize
+    if not (field_at bytes 4 == 3007000) then Err BadVersion
+    else if not (is_page_size (field_at bytes 8)) then Err BadSize
     else if not (are_same (sums_of order (take 24 bytes)) (sums_at bytes 24)) then Err BadSum
     else Ok (header_in order bytes)
 
 -- the header with which bytes begin, or its first failed test
 unfoldable pub read_header : List ℕ → Result WalHeader WalHeaderFault
-read_header bytes = if nat_lt (length bytes) 32 then Err Short else read_behind_magic (order_of (number_at bytes 0)) bytes
+read_header bytes = if nat_lt (length bytes) 32 then Err Short else read_behind_magic (order_of (field_at bytes 0)) bytes

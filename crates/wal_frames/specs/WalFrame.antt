@@ -9,7 +9,7 @@ use Rattle.wal_frames.specs.declared.fault.NotValid.{NotValid}
 use Rattle.wal_frames.specs.declared.fault.NotValid.TheVariants.{Salt, Zero, Sum}
 use Rattle.wal_frames.specs.declared.frame.Frame.{Frame}
 use Rattle.wal_frames.specs.declared.frame.Frame.TheVariants.{Valid, Not}
-use Rattle.wal_frames.specs.WalFormat.{number_at, sums_at, are_same}
+use Rattle.wal_frames.specs.WalFormat.{field_at, sums_at, are_same}
 
 -- ---- one frame: page number, size after the commit or 0, two salts, two sums, and the page
 
@@ -18,24 +18,24 @@ abbrev pub frame_length : WalHeader → ℕ
 frame_length h = 24 + h.size
 
 abbrev pub page_number : List ℕ → ℕ
-page_number frame = number_at frame 0
+page_number frame = field_at frame 0
 
 -- the size of the database in pages after the commit; 0 where the frame doesn't commit
 abbrev pub commit_size : List ℕ → ℕ
-commit_size frame = number_at frame 4
+commit_size frame = field_at frame 4
 
-abbrev pub page_of : List ℕ → List ℕ
-page_of frame = drop 24 frame
+abbrev pub frame_page : List ℕ → List ℕ
+frame_page frame = drop 24 frame
 
 -- the part of a frame that the sums are over
 abbrev pub summed_part : List ℕ → List ℕ
-summed_part frame = take 8 frame ++ page_of frame
+summed_part frame = take 8 frame ++ frame_page frame
 
 -- The first failed test of a frame under the header, where these are the sums up to and with it: the salts,
 -- a page number other than 0, and the stored sums.
 abbrev pub frame_fault : WalHeader → WalSum → List ℕ → Option NotValid
 frame_fault h sums frame =
-    if not (number_at frame 8 == h.salt1 && number_at frame 12 == h.salt2) then Some Salt
+    if not (field_at frame 8 == h.salt1 && field_at frame 12 == h.salt2) then Some Salt
     else if page_number frame == 0 then Some Zero
     else if not (are_same sums (sums_at frame 16)) then Some Sum
     else None

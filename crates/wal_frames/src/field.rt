@@ -7,10 +7,10 @@ ghost use Rattle.wal_frames.specs.WalFormat as spec;
 use byteorder::{BigEndian, ByteOrder};
 
 /// The number in the four bytes from `at` on.
-#[tactic(auto, unfolding(crate::specs::WalFormat::number_at))]
-pub(crate) fn number_at(bytes: &[u8], at: usize) -> u32
+#[tactic(auto, unfolding(crate::specs::WalFormat::field_at))]
+pub(crate) fn field_at(bytes: &[u8], at: usize) -> u32
     requires { at + 4 ≤ length bytes.now }
-    ensures { result ≡ spec.number_at bytes.now at }
+    ensures { result ≡ spec.field_at bytes.now at }
 {
     BigEndian::read_u32(&bytes[at..])
 }

@@ -5,7 +5,7 @@ ghost use Rattle.wal_frames.specs.declared.frame.Frame.TheVariants.{Valid};
 ghost use Rattle.wal_frames.specs.WalFrame as spec;
 
 use crate::fault::NotValid;
-use crate::field::{number_at, put_number};
+use crate::field::{field_at, put_number};
 use crate::header::WalHeader;
 use ls_sums::{Order, WalSum};
 
@@ -37,10 +37,10 @@ pub fn check_frame(head: &WalHeader, sums: WalSum, bytes: &[u8]) -> Frame
     requires { length bytes.now ≡ spec.frame_length head.now }
     ensures value { result ≡ spec.checked head.now sums bytes.now }
 {
-    if number_at(bytes, 8) != head.salt1 || number_at(bytes, 12) != head.salt2 {
+    if field_at(bytes, 8) != head.salt1 || field_at(bytes, 12) != head.salt2 {
         return Frame::Not(NotValid::Salt);
     }
-    let number = number_at(bytes, 0);
+    let number = field_at(bytes, 0);
     if number == 0 {
         return Frame::Not(NotValid::Zero);
     }
@@ -51,12 +51,12 @@ pub fn check_frame(head: &WalHeader, sums: WalSum, bytes: &[u8]) -> Frame
         &bytes[..SUMMED_BYTES],
         &bytes[FRAME_HEADER_BYTES..end],
     );
-    if sums.s0 != number_at(bytes, 16) || sums.s1 != number_at(bytes, 20) {
+    if sums.s0 != field_at(bytes, 16) || sums.s1 != field_at(bytes, 20) {
         return Frame::Not(NotValid::Sum);
     }
     Frame::Valid {
         number,
-        commit: number_at(bytes, 4),
+        commit: field_at(bytes, 4),
         sums,
     }
 }

@@ -1,11 +1,11 @@
 //! The header of a log.
 
-ghost use Rattle.std.specs.Prelude.{◌≡◌, ◌≤◌, length, take, Some, Ok};
+ghost use Rattle.std.specs.Prelude.{◌≡◌, ◌≤◌, length, take, Some, Ok, IfOk};
 ghost use Rattle.wal_frames.specs.WalFormat as spec;
 ghost use Rattle.wal_frames.specs.WalFormat.{HasSums, HasFields, FitsFront};
 
 use crate::fault::WalHeaderFault;
-use crate::field::{number_at, put_number};
+use crate::field::{field_at, put_number};
 use ls_base::PageSize;
 use ls_sums::{Order, WalSum};
 
@@ -83,11 +83,12 @@ fn front_sums(head: &WalHeader) -> WalSum
 #[tactic(auto, unfolding(crate::specs::WalFormat::read_header))]
 pub fn read_wal_header(bytes: &[u8]) -> Result<WalHeader, WalHeaderFault>
     ensures value { result ≡ spec.read_header bytes.now }
+    ensures sums { IfOk result HasSums }
 {
     if bytes.len() < HEADER_BYTES {
         return Err(WalHeaderFault::Short);
     }
-    match order_of(number_at(bytes, 0)) {
+    match order_of(field_at(bytes, 0)) {
         Some(order) => read_behind_magic(order, bytes),
         None => Err(WalHeaderFault::BadMagic),
     }
@@ -98,10 +99,10 @@ fn read_behind_magic(order: Order, bytes: &[u8]) -> Result<WalHeader, WalHeaderF
     requires { 32 ≤ length bytes.now }
     ensures { result ≡ spec.read_behind_magic (Some order) bytes.now }
 {
-    if number_at(bytes, 4) != VERSION {
+    if field_at(bytes, 4) != VERSION {
         return Err(WalHeaderFault::BadVersion);
     }
-    let Some(size) = PageSize::from_u32(number_at(bytes, 8)) else {
+    let Some(size) = PageSize::from_u32(field_at(bytes, 8)) else {
         return Err(WalHeaderFault::BadSize);
     };
     if !has_sums(order, bytes) {
@@ -110,11 +111,11 @@ fn read_behind_magic(order: Order, bytes: &[u8]) -> Result<WalHeader, WalHeaderF
     Ok(WalHeader {
         order,
         size,
-        seq: number_at(bytes, 12),
-        salt1: number_at(bytes, 16),
-        salt2: number_at(bytes, 20),
-        s0: number_at(bytes, 24),
-        s1: number_at(bytes, 28),
+        seq: field_at(bytes, 12),
+        salt1: field_at(bytes, 16),
+        salt2: field_at(bytes, 20),
+        s0: field_at(bytes, 24),
+        s1: field_at(bytes, 28),
     })
 }
 
@@ -125,7 +126,7 @@ fn has_sums(order: Order, bytes: &[u8]) -> bool
     ensures { result ≡ spec.are_same (spec.sums_of order (take 24 bytes.now)) (spec.sums_at bytes.now 24) }
 {
     let sums = WalSum::start().over(order, &bytes[..SUMMED_BYTES]);
-    sums.s0 == number_at(bytes, 24) && sums.s1 == number_at(bytes, 28)
+    sums.s0 == field_at(bytes, 24) && sums.s1 == field_at(bytes, 28)
 }
 
 /// The order of words that the magic names, if it is one.
@@ -152,7 +153,7 @@ fn magic_of(order: Order) -> u32
 /// Writes the header of a log, whose sums are those of what stands before them.
 pub fn write_wal_header(head: &WalHeader, into: &mut [u8; 32])
     requires { HasSums head.now }
-    ensures bytes { into.new ≡ spec.header_bytes head.now }
+    ensures bytes { into.new ≡ spec.wal_header_bytes head.now }
     ensures reads_back { spec.read_header into.new ≡ Ok head.now }
 {
     put_front(head, into);

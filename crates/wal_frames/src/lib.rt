@@ -24,5 +24,5 @@ pub use fault::{NotValid, WalHeaderFault};
 pub use fed::Fed;
 pub use frame::{Frame, check_frame, write_frame};
 pub use header::{WalHeader, read_wal_header, write_wal_header};
-pub use law::prefix_laws;
+pub use law::{log_laws, prefix_laws, view_laws};
 pub use scan::Scan;

@@ -1,10 +1,10 @@
 //! The scan of a log.
 
-ghost use Rattle.std.specs.Prelude.{◌≡◌, ℕ, ◌+◌, ◌-◌, ◌<◌, ◌^◌, ◌≤◌, ◌++◌, [], List, Option, Some, length, take, IfOk, Ok};
+ghost use Rattle.std.specs.Prelude.{◌≡◌, ℕ, ◌+◌, ◌-◌, ◌<◌, ◌^◌, ◌≤◌, ◌++◌, ◌==◌, [], List, Option, Some, length, take, if◌then◌else◌, IfOk, Ok};
 ghost use Rattle.wal_frames.specs.WalFormat.{read_header};
 ghost use Rattle.wal_frames.specs.WalFrame as format;
-ghost use Rattle.wal_frames.specs.ValidPrefix.{mark_with, mark_after};
-ghost use Rattle.wal_frames.specs.Scanned.{HasTaken, IsMark, Feeds, last_mark_of, stop_of};
+ghost use Rattle.wal_frames.specs.Marks.{mark_with, IsMark, last_mark_of};
+ghost use Rattle.wal_frames.specs.Scanned.{HasTaken, Feeds, stop_of};
 
 use crate::fault::NotValid;
 use crate::fed::Fed;
@@ -70,6 +70,7 @@ impl Scan {
     pub fn feed(&mut self, piece: &[u8]) -> Fed
         requires { self.old.taken + length piece.now < 2 ^ 63 }
         ensures value { Feeds self.old self.new piece.now result }
+        ensures head { self.new.head ≡ self.old.head }
     {
         if self.stopped.is_some() {
             self.taken += piece.len() as u64;
@@ -111,6 +112,7 @@ impl Scan {
     pub fn back(&mut self, to: &Mark)
         ensures value { (log : List ℕ) → HasTaken self.old log → IsMark log to.now → HasTaken self.new (take to.now.end log) }
         ensures taken { self.new.taken ≡ to.now.end - 32 }
+        ensures head { self.new.head ≡ self.old.head }
     {
         self.part.clear();
         self.taken = to.end.saturating_sub(HEADER_BYTES as u64);
@@ -172,7 +174,7 @@ fn mark_at(head: &WalHeader, end: u64, sums: WalSum, commit: u32) -> Mark
 
 /// The last mark after a frame whose mark this is, if it commits.
 fn last_after(last: Option<Mark>, mark: Mark) -> Option<Mark>
-    ensures { result ≡ mark_after last mark }
+    ensures { result ≡ (if mark.commit == 0 then last else Some mark) }
 {
     if mark.commit == 0 {
         return last;

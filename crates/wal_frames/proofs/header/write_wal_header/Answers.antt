@@ -1,12 +1,12 @@
 use Rattle.std.proofs.Common.{◌≡◌, ◌∙◌, length, take, sym, refl, arith}
 use Rattle.std.proofs.Math.Seq.{take-length}
-use Rattle.wal_frames.specs.WalFormat.{header_front, header_bytes}
+use Rattle.wal_frames.specs.WalFormat.{header_front, wal_header_bytes}
 use Rattle.wal_frames.proofs.HeaderLemmas.{page_size_fits}
 use Rattle.wal_frames.proofs.WrittenLemmas.{FitsHeader, header_reads_back}
 use Rattle.wal_frames.proofs.header.write_wal_header.Goals as goal
 
 pub returns-clause-bytes : goal.returns-clause-bytes
-unfolding header_bytes header_front
+unfolding wal_header_bytes header_front
 returns-clause-bytes c =
     let written = c.put_number-2.new.into in
     let len : length written ≡ 32 = omega arith in

@@ -2,8 +2,10 @@ use Rattle.std.proofs.Common.{◌≡◌, ◌∙◌, ◌+◌, ◌-◌, ◌++◌, 
 use Rattle.std.proofs.lemmas.List.{length-take-le, take-append-drop}
 use Rattle.ls_base.specs.declared.mark.Mark.{Mark}
 use Rattle.wal_frames.specs.WalFrame.{frame_length}
-use Rattle.wal_frames.specs.ValidPrefix.{mark_with, mark_after, valid_frames}
+use Rattle.wal_frames.specs.ValidPrefix.{valid_frames}
+use Rattle.wal_frames.specs.Marks.{mark_with}
 use Rattle.wal_frames.specs.Scanned.{Scanned, HasTaken, EndsFrame}
+use Rattle.wal_frames.proofs.MarkLemmas.{mark_after}
 use Rattle.wal_frames.proofs.TakenLemmas.{same_scan, taken_of, some_of, none_of, taken_stopped, taken_part, taken_valid, taken_not}
 use Rattle.wal_frames.proofs.scan.Scan.feed.Goals as goal
 
@@ -17,6 +19,7 @@ returns-then-is_some c = record {
         let stop = some_of s.stopped (sym c.is_some.ensures ∙ c.if-is_some.true) in
         taken_stopped old log (taken_of old c.args.self.now log c.self.view_is t) c.args.piece.now stop.0 stop.1,
   );
+  head = ap (λ (v : Scanned). v.head) c.self.view_is;
 }
 
 pub returns-then-piece-missing : goal.returns-then-piece-missing
@@ -29,6 +32,7 @@ returns-then-piece-missing c = record {
         let none = none_of s.stopped (sym c.is_some.ensures ∙ c.if-is_some.false) in
         rw c.push.ensures (taken_part old log (taken_of old c.args.self.now log c.self.view_is t) c.args.piece.now none (omega (arith, c.if-piece-missing.true, c.len.ensures.value, c.get.ensures.value))),
   );
+  head = ap (λ (v : Scanned). v.head) c.self.view_is;
 }
 
 pub returns-in-Valid : goal.returns-in-Valid
@@ -37,6 +41,7 @@ returns-in-Valid c = record {
     omega (arith, c.len.ensures.value, c.get.ensures.value, c.self.invariant.1, c.self.invariant.0),
     c.if-piece-missing.false,
     ap (λ (v : Scanned). v.taken + (24 + c.get.result - c.len.result)) c.self.view_is,
+    refl,
     λ log t.
         let s = c.self.inside in
         let old : Scanned = record { head = s.head; taken = s.taken; end = s.end; sums = s.sums; held = s.part.bytes; last = s.last; stopped = s.stopped } in
@@ -54,6 +59,7 @@ returns-in-Valid c = record {
           subst (λ (n : ℕ). EndsFrame log (log ++ x) c.in-Valid.number c.in-Valid.commit n) (sym end) got.1,
         ),
   );
+  head = ap (λ (v : Scanned). v.head) c.self.view_is;
 }
 
 pub returns-in-Not : goal.returns-in-Not
@@ -82,4 +88,5 @@ returns-in-Not c = record {
           ap valid_frames (sym joined) ∙ after.1 ∙ got.1,
         ),
   );
+  head = ap (λ (v : Scanned). v.head) c.self.view_is;
 }

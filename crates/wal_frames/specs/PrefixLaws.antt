@@ -1,9 +1,12 @@
--- What the valid prefix is, in the words of the format.
-use Rattle.std.specs.Prelude.{◌≡◌, ℕ, ◌≤◌, List, [], ◌∷◌, ◌++◌, length, Option, Some, None}
+-- What the valid prefix and its marks are, in the words of the format.
+use Rattle.std.specs.Prelude.{◌≡◌, ◌≢◌, ◌↔◌, ℕ, ◌≤◌, List, [], ◌∷◌, ◌++◌, length, map, Option, None, Ok}
+use Rattle.std.specs.List.Sorted.{IsStrictlyIncreasing}
 use Rattle.ls_base.specs.declared.mark.Mark.{Mark}
 use Rattle.wal_frames.specs.declared.header.WalHeader.{WalHeader}
+use Rattle.wal_frames.specs.WalFormat.{read_header}
 use Rattle.wal_frames.specs.WalFrame.{commit_size}
-use Rattle.wal_frames.specs.ValidPrefix.{fault_behind, valid_behind, mark_of, last_mark}
+use Rattle.wal_frames.specs.ValidPrefix.{fault_behind, valid_behind, valid_frames}
+use Rattle.wal_frames.specs.Marks.{mark_of, marks_of, IsMark}
 
 -- each of the frames is valid behind those before it
 abbrev pub AreValid : List ℕ → WalHeader → List (List ℕ) → List (List ℕ) → Type 0
@@ -20,25 +23,19 @@ pub record IsLongest (front : List ℕ) (h : WalHeader) (all frames : List (List
 abbrev pub ValidIsLongest : Type 0
 ValidIsLongest = (front : List ℕ) (h : WalHeader) (all : List (List ℕ)) → IsLongest front h all (valid_behind front h [] all)
 
--- The last mark is that of a frame that commits, and none behind that one does. There is none where no
--- frame commits.
-abbrev pub NoneCommits : List (List ℕ) → Type 0
-NoneCommits [] = Unit {0}
-NoneCommits (frame ∷ frames) = (commit_size frame ≡ 0) × NoneCommits frames
-
--- the mark is that of the frame between, behind which none commits
-pub record IsLastMark (h : WalHeader) (frames : List (List ℕ)) (mark : Mark) : Type 0 where
+-- the mark is that of one of these frames, which commits
+pub record IsMarkOf (h : WalHeader) (frames : List (List ℕ)) (mark : Mark) : Type 0 where
   pub before : List (List ℕ)
   pub frame : List ℕ
   pub behind : List (List ℕ)
   pub split : frames ≡ before ++ frame ∷ behind
-  pub commits : commit_size frame ≡ 0 → ⊥
+  pub commits : commit_size frame ≢ 0
   pub is : mark ≡ mark_of h before frame
-  pub none_behind : NoneCommits behind
 
-abbrev pub IsLastMarkOrNone : WalHeader → List (List ℕ) → Option Mark → Type 0
-IsLastMarkOrNone h frames None = NoneCommits frames
-IsLastMarkOrNone h frames (Some mark) = IsLastMark h frames mark
+-- the marks of a log are those of its valid frames that commit
+abbrev pub MarksAreCommits : Type 0
+MarksAreCommits = (log : List ℕ) (h : WalHeader) (mark : Mark) → read_header log ≡ Ok h → IsMark log mark ↔ IsMarkOf h (valid_frames log) mark
 
-abbrev pub LastMarkIsLast : Type 0
-LastMarkIsLast = (h : WalHeader) (frames : List (List ℕ)) → IsLastMarkOrNone h frames (last_mark h frames)
+-- they stand in the order of their ends, and no two at one
+abbrev pub MarksRise : Type 0
+MarksRise = (log : List ℕ) → IsStrictlyIncreasing (map (λ mark. mark.end) (marks_of log))
