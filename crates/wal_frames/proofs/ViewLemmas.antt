@@ -9,6 +9,7 @@ use Rattle.std.proofs.lemmas.List.{length-replicate, length-take-le, take_at, dr
 use Rattle.std.proofs.lemmas.List.FromFn.{length-map-range_with_len}
 use Rattle.ls_base.specs.PageSize.{IsPageSize, lock_page}
 use Rattle.ls_base.specs.State.{State, HasPageSize, HasBlankLockPage, IsState, page_of}
+use Rattle.ls_base.proofs.StateLemmas.{page_of-past}
 use Rattle.ls_base.specs.declared.mark.Mark.{Mark}
 use Rattle.wal_frames.specs.declared.header.WalHeader.{WalHeader}
 use Rattle.wal_frames.specs.WalFormat.{read_header}
@@ -35,11 +36,6 @@ module _ (f : ℕ → List ℕ) where
   made a (suc n) (suc k) less =
       let e : a + 1 + k ≡ a + suc k = omega arith in made (a + 1) n k (omega (arith, less)) ∙ ap (λ (p : ℕ). Some (f p)) e
 
-  not_made : (a n k : ℕ) → n ≤ k → slice_get (map f (range_with_len a n)) k ≡ None
-  not_made a zero k past = refl
-  not_made a (suc n) zero past = absurd (omega (arith, past))
-  not_made a (suc n) (suc k) past = not_made (a + 1) n k (omega (arith, past))
-
   module _ (size : Option ℕ) (n : ℕ) where
     abbrev made_state : State
     made_state = record { page_size = size; pages = map f (range_with_len 1 n) }
@@ -49,8 +45,7 @@ module _ (f : ℕ → List ℕ) where
     page_made (suc k) from upto = let e : 1 + k ≡ suc k = omega arith in made 1 n k (omega (arith, upto)) ∙ ap (λ (p : ℕ). Some (f p)) e
 
     pub no_page : (p : ℕ) → n < p → page_of made_state p ≡ None
-    no_page zero past = absurd (omega (arith, past))
-    no_page (suc k) past = not_made 1 n k (omega (arith, past))
+    no_page p past = page_of-past made_state p (omega (arith, past, length-map-range_with_len f 1 n))
 
   all_sized : (size a n : ℕ) → ((p : ℕ) → length (f p) ≡ size) → AllByRecursion (λ page. length page ≡ size) (map f (range_with_len a n))
   all_sized size a zero each = tt

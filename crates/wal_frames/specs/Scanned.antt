@@ -52,11 +52,16 @@ pub record EndsFrame (before after : List ℕ) (number commit end : ℕ) : Type 
   pub is_end : end ≡ length after
 
 -- What `feed` did. `All`: it took the whole piece, and no frame of the valid prefix ends in it. `Frame`: it
--- took the piece up to the first such end, which is the end of the prefix from then on.
+-- took the piece up to the first such end.
 abbrev pub Feeds : Scanned → Scanned → List ℕ → Fed → Type 0
 Feeds old new piece All =
     (new.taken ≡ old.taken + length piece)
     × ((log : List ℕ) → HasTaken old log → HasTaken new (log ++ piece) × (valid_frames (log ++ piece) ≡ valid_frames log))
 Feeds old new piece (Frame taken number commit end) =
-    (1 ≤ taken) × (taken ≤ length piece) × (new.taken ≡ old.taken + taken) × (end ≡ new.end)
+    (1 ≤ taken) × (taken ≤ length piece) × (new.taken ≡ old.taken + taken)
     × ((log : List ℕ) → HasTaken old log → HasTaken new (log ++ take taken piece) × EndsFrame log (log ++ take taken piece) number commit end)
+
+-- the end that is answered is that of the valid prefix from then on
+abbrev pub AnswersEnd : Scanned → Fed → Type 0
+AnswersEnd new All = Unit {0}
+AnswersEnd new (Frame taken number commit end) = end ≡ new.end

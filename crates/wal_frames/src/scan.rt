@@ -4,7 +4,7 @@ ghost use Rattle.std.specs.Prelude.{◌≡◌, ℕ, ◌+◌, ◌-◌, ◌<◌, �
 ghost use Rattle.wal_frames.specs.WalFormat.{read_header};
 ghost use Rattle.wal_frames.specs.WalFrame as format;
 ghost use Rattle.wal_frames.specs.Marks.{mark_with, IsMark, last_mark_of};
-ghost use Rattle.wal_frames.specs.Scanned.{HasTaken, Feeds, stop_of};
+ghost use Rattle.wal_frames.specs.Scanned.{HasTaken, Feeds, AnswersEnd, stop_of};
 
 use crate::fault::NotValid;
 use crate::fed::Fed;
@@ -70,6 +70,7 @@ impl Scan {
     pub fn feed(&mut self, piece: &[u8]) -> Fed
         requires { self.old.taken + length piece.now < 2 ^ 63 }
         ensures value { Feeds self.old self.new piece.now result }
+        ensures end { AnswersEnd self.new result }
         ensures head { self.new.head ≡ self.old.head }
     {
         if self.stopped.is_some() {

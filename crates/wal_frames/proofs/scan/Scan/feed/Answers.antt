@@ -9,39 +9,31 @@ use Rattle.wal_frames.proofs.MarkLemmas.{mark_after}
 use Rattle.wal_frames.proofs.TakenLemmas.{same_scan, taken_of, some_of, none_of, taken_stopped, taken_part, taken_valid, taken_not}
 use Rattle.wal_frames.proofs.scan.Scan.feed.Goals as goal
 
-pub returns-then-is_some : goal.returns-then-is_some
-returns-then-is_some c = record {
-  value = (
+pub returns-then-is_some-clause-value : goal.returns-then-is_some-clause-value
+returns-then-is_some-clause-value c = (
     ap (λ (v : Scanned). v.taken + length c.args.piece.now) c.self.view_is,
     λ log t.
         let s = c.self.inside in
         let old : Scanned = record { head = s.head; taken = s.taken; end = s.end; sums = s.sums; held = s.part.bytes; last = s.last; stopped = s.stopped } in
         let stop = some_of s.stopped (sym c.is_some.ensures ∙ c.if-is_some.true) in
         taken_stopped old log (taken_of old c.args.self.now log c.self.view_is t) c.args.piece.now stop.0 stop.1,
-  );
-  head = ap (λ (v : Scanned). v.head) c.self.view_is;
-}
+)
 
-pub returns-then-piece-missing : goal.returns-then-piece-missing
-returns-then-piece-missing c = record {
-  value = (
+pub returns-then-piece-missing-clause-value : goal.returns-then-piece-missing-clause-value
+returns-then-piece-missing-clause-value c = (
     ap (λ (v : Scanned). v.taken + length c.args.piece.now) c.self.view_is,
     λ log t.
         let s = c.self.inside in
         let old : Scanned = record { head = s.head; taken = s.taken; end = s.end; sums = s.sums; held = s.part.bytes; last = s.last; stopped = s.stopped } in
         let none = none_of s.stopped (sym c.is_some.ensures ∙ c.if-is_some.false) in
         rw c.push.ensures (taken_part old log (taken_of old c.args.self.now log c.self.view_is t) c.args.piece.now none (omega (arith, c.if-piece-missing.true, c.len.ensures.value, c.get.ensures.value))),
-  );
-  head = ap (λ (v : Scanned). v.head) c.self.view_is;
-}
+)
 
-pub returns-in-Valid : goal.returns-in-Valid
-returns-in-Valid c = record {
-  value = (
+pub returns-in-Valid-clause-value : goal.returns-in-Valid-clause-value
+returns-in-Valid-clause-value c = (
     omega (arith, c.len.ensures.value, c.get.ensures.value, c.self.invariant.1, c.self.invariant.0),
     c.if-piece-missing.false,
     ap (λ (v : Scanned). v.taken + (24 + c.get.result - c.len.result)) c.self.view_is,
-    refl,
     λ log t.
         let s = c.self.inside in
         let old : Scanned = record { head = s.head; taken = s.taken; end = s.end; sums = s.sums; held = s.part.bytes; last = s.last; stopped = s.stopped } in
@@ -58,13 +50,10 @@ returns-in-Valid c = record {
           taken_of _ _ (log ++ x) (same_scan _ _ refl (omega (arith, len)) end refl (ap (λ p. p.bytes) c.checked.ensures.held) last refl) got.0,
           subst (λ (n : ℕ). EndsFrame log (log ++ x) c.in-Valid.number c.in-Valid.commit n) (sym end) got.1,
         ),
-  );
-  head = ap (λ (v : Scanned). v.head) c.self.view_is;
-}
+)
 
-pub returns-in-Not : goal.returns-in-Not
-returns-in-Not c = record {
-  value = (
+pub returns-in-Not-clause-value : goal.returns-in-Not-clause-value
+returns-in-Not-clause-value c = (
     ap (λ (v : Scanned). v.taken + length c.args.piece.now) c.self.view_is,
     λ log t.
         let s = c.self.inside in
@@ -87,6 +76,4 @@ returns-in-Not c = record {
           taken_of _ final (log ++ piece) (same_scan _ final refl lengths refl refl (ap (λ p. p.bytes) c.checked.ensures.held) refl refl) (subst (λ (l : List ℕ). HasTaken final l) joined after.0),
           ap valid_frames (sym joined) ∙ after.1 ∙ got.1,
         ),
-  );
-  head = ap (λ (v : Scanned). v.head) c.self.view_is;
-}
+)
