@@ -107,8 +107,8 @@ module _ (log : List ℕ) (small : (k : ℕ) → get_or log k 0 < 256) where
       elim (cases_lt k 4) [
         | inl within ↦ let e : get_or (take 4 (drop at log)) k 0 ≡ get_or log (at + k) 0 = get_or-take 4 (drop at log) k 0 within ∙ get_or-drop at log k 0 in rw e (small (at + k))
         | inr past ↦
-          let e : get_or (take 4 (drop at log)) k 0 ≡ 0 = get_or_past (take 4 (drop at log)) k 0 (omega (arith, past, length-take 4 (drop at log))) in
-          rw e (omega arith)
+            let e : get_or (take 4 (drop at log)) k 0 ≡ 0 = get_or_past (take 4 (drop at log)) k 0 (omega (arith, past, length-take 4 (drop at log))) in
+            rw e (omega arith)
       ]
 
   field_bytes : (at : ℕ) → at + 4 ≤ length log → big_bytes 4 (field_at log at) ≡ take 4 (drop at log)

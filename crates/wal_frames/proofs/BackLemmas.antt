@@ -8,7 +8,7 @@ use Rattle.wal_frames.specs.declared.header.WalHeader.{WalHeader}
 use Rattle.wal_frames.specs.WalFormat.{read_header, sums_of}
 use Rattle.wal_frames.specs.WalFrame.{frame_length, commit_size}
 use Rattle.wal_frames.specs.ValidPrefix.{prefix_sums, fault_behind, stop_behind, whole_frames, frames_under, stop_under}
-use Rattle.wal_frames.specs.Marks.{end_of, marks_behind, last_mark_of}
+use Rattle.wal_frames.specs.Marks.{end_of, marks_behind}
 use Rattle.wal_frames.specs.PrefixLaws.{IsMarkOf}
 use Rattle.wal_frames.specs.Scanned.{HasTaken}
 use Rattle.wal_frames.proofs.AcceptedLemmas.{Accepts, accepts, read_header-take}

@@ -1,10 +1,10 @@
 -- Logs that grow, are cut or share a front.
-use Rattle.std.proofs.Common.{◌≡◌, ◌≢◌, ◌∙◌, ℕ, zero, suc, ◌+◌, ◌-◌, ◌*◌, ◌<◌, ◌≤◌, List, [], ◌∷◌, ◌++◌, length, take, drop, map, Option, Some, None, Result, Ok, Err, sym, ap, subst, refl, inl, inr, ◌⊎◌, arith, length-append, append_assoc, append-nil}
+use Rattle.std.proofs.Common.{◌≡◌, ◌∙◌, ℕ, zero, suc, ◌+◌, ◌*◌, ◌<◌, ◌≤◌, List, [], ◌∷◌, ◌++◌, length, take, drop, map, Option, Some, None, Result, Ok, Err, sym, ap, subst, refl, inl, inr, ◌⊎◌, arith, length-append, append_assoc, append-nil}
 use Rattle.std.specs.List.{Contains, last_or}
 use Rattle.std.specs.List.Sorted.{IsStrictlyIncreasing}
 use Rattle.std.specs.Simd.{first_chunks}
 use Rattle.std.proofs.lemmas.Bool.{cases_lt}
-use Rattle.std.proofs.lemmas.List.{take-append-le, take-append-drop, take_at, take_all, take-take, length-take, length-take-le, drop-drop, same_from_push}
+use Rattle.std.proofs.lemmas.List.{take-append-le, take-append-drop, take-take, length-take, length-take-le, drop-drop, same_from_push}
 use Rattle.std.proofs.lemmas.List.Elements.{All-contains, All-from_recursion, Contains-append_left, Contains-append_right, Contains-append_cases, Contains-push_cases}
 use Rattle.ls_base.specs.declared.mark.Mark.{Mark}
 use Rattle.wal_frames.specs.declared.header.WalHeader.{WalHeader}
@@ -14,7 +14,6 @@ use Rattle.wal_frames.specs.WalFormat.{read_header}
 use Rattle.wal_frames.specs.WalFrame.{frame_length}
 use Rattle.wal_frames.specs.ValidPrefix.{valid_behind, whole_frames, frames_under, stop_under, valid_frames}
 use Rattle.wal_frames.specs.Marks.{end_of, marks_behind, marks_of, IsMark, last_mark_of, bytes_to, committed_part}
-use Rattle.wal_frames.specs.PrefixLaws.{IsMarkOf}
 use Rattle.wal_frames.specs.LogLaws.{EndBehind, HasMoreMarks, HasLastFrom, StandsAt}
 use Rattle.wal_frames.proofs.ChunkLemmas.{first_chunks-add}
 use Rattle.wal_frames.proofs.AcceptedLemmas.{Accepts, accepts, read_header-append}
@@ -45,8 +44,8 @@ accepted_by_mark log mark is_mark =
     elim (cases_accepted log) [
       | inl accepted ↦ accepted
       | inr refused ↦
-        let none : Contains [] mark = subst (λ (ms : List Mark). Contains ms mark) (no_marks log refused.0 refused.1) is_mark in
-        absurd (omega (arith, none.1))
+          let none : Contains [] mark = subst (λ (ms : List Mark). Contains ms mark) (no_marks log refused.0 refused.1) is_mark in
+          absurd (omega (arith, none.1))
     ]
 
 -- ---- a log that grows
@@ -68,7 +67,7 @@ module _ (h : WalHeader) (log : List ℕ) (a : Accepts h log) (x : List ℕ) whe
       record {
         more = valid_behind (take 24 log) h (whole_frames h log) others.0;
         grown = rw (same_front, others.1) (valid-more (take 24 log) h [] (whole_frames h log) others.0 none)
-        ∙ ap (λ (fs : List (List ℕ)). fs ++ valid_behind (take 24 log) h (whole_frames h log) others.0) (sym all);
+            ∙ ap (λ (fs : List (List ℕ)). fs ++ valid_behind (take 24 log) h (whole_frames h log) others.0) (sym all);
         whole = inr all;
       }
   grows_from (Some e) stopped =
@@ -95,7 +94,7 @@ module _ (h : WalHeader) (log : List ℕ) (a : Accepts h log) (x : List ℕ) whe
       record {
         more = marks_behind h (frames_under h log) g.more;
         kept = marks_are (log ++ x) h grown ∙ ap (marks_behind h []) g.grown ∙ marks-append h [] (frames_under h log) g.more
-        ∙ ap (λ (ms : List Mark). ms ++ marks_behind h (frames_under h log) g.more) (sym (marks_are log h e));
+            ∙ ap (λ (ms : List Mark). ms ++ marks_behind h (frames_under h log) g.more) (sym (marks_are log h e));
         behind = marks_behind_end g.more g.whole;
       }
 
@@ -105,10 +104,10 @@ refused_behind log more fault e =
     elim (cases_lt (length log) 32) [
       | inr long ↦ let none = no_marks (log ++ more) fault (read_header-append log more long ∙ e) in rw none tt
       | inl short ↦
-        elim (cases_accepted (log ++ more)) [
-          | inl accepted ↦ rw (marks_are (log ++ more) accepted.0 accepted.1) (ends_behind accepted.0 (length log) [] (frames_under accepted.0 (log ++ more)) (omega (arith, short)))
-          | inr refused ↦ rw (no_marks (log ++ more) refused.0 refused.1) tt
-        ]
+          elim (cases_accepted (log ++ more)) [
+            | inl accepted ↦ rw (marks_are (log ++ more) accepted.0 accepted.1) (ends_behind accepted.0 (length log) [] (frames_under accepted.0 (log ++ more)) (omega (arith, short)))
+            | inr refused ↦ rw (no_marks (log ++ more) refused.0 refused.1) tt
+          ]
     ]
 
 pub growing_keeps : (log more : List ℕ) → HasMoreMarks log (log ++ more)
@@ -131,7 +130,7 @@ behind_each offset marks mark behind among =
 cons_cases : (first : Mark) (marks : List Mark) (mark : Mark) → Contains (first ∷ marks) mark → (first ≡ mark) ⊎ Contains marks mark
 cons_cases first marks mark among =
     elim (Contains-append_cases (first ∷ []) marks mark among) [
-      | inl here ↦ elim (Contains-push_cases [] first mark here) [ | inl none ↦ absurd (omega (arith, none.1)) | inr same ↦ inl same ]
+      | inl here ↦ elim (Contains-push_cases [] first mark here) [ inl none ↦ absurd (omega (arith, none.1)) | inr same ↦ inl same ]
       | inr later ↦ inr later
     ]
 
@@ -145,18 +144,18 @@ last_among (mark ∷ marks) before last e =
     ]
 
 pub last_is_mark : (log : List ℕ) (last : Mark) → last_mark_of log ≡ Some last → IsMark log last
-last_is_mark log last e = elim (last_among (marks_of log) None last e) [ | inl among ↦ among | inr none ↦ absurd cc ]
+last_is_mark log last e = elim (last_among (marks_of log) None last e) [ inl among ↦ among | inr none ↦ absurd cc ]
 
 greatest : (marks : List Mark) (before : Option Mark) (mark last : Mark) → AreRising marks → last_or before marks ≡ Some last → Contains marks mark → mark.end ≤ last.end
 greatest [] before mark last rise e among = absurd (omega (arith, among.1))
 greatest (first ∷ marks) before mark last rise e among =
     elim (cons_cases first marks mark among) [
       | inl same ↦
-        let end : first.end ≡ mark.end = ap (λ (m : Mark). m.end) same in
-        elim (last_among marks (Some first) last e) [
-          | inl later ↦ let behind = behind_each first.end marks last rise.0 later in omega (arith, behind, end)
-          | inr is ↦ let it : first ≡ last = cc in omega (arith, end, ap (λ (m : Mark). m.end) it)
-        ]
+          let end : first.end ≡ mark.end = ap (λ (m : Mark). m.end) same in
+          elim (last_among marks (Some first) last e) [
+            | inl later ↦ let behind = behind_each first.end marks last rise.0 later in omega (arith, behind, end)
+            | inr is ↦ let it : first ≡ last = cc in omega (arith, end, ap (λ (m : Mark). m.end) it)
+          ]
       | inr later ↦ greatest marks (Some first) mark last rise.1 e later
     ]
 
@@ -165,15 +164,15 @@ one_an_end [] a b rise left right e = absurd (omega (arith, left.1))
 one_an_end (first ∷ marks) a b rise left right e =
     elim (cons_cases first marks a left) [
       | inl is_a ↦
-        elim (cons_cases first marks b right) [
-          | inl is_b ↦ sym is_a ∙ is_b
-          | inr later ↦ let behind = behind_each first.end marks b rise.0 later in absurd (omega (arith, behind, e, ap (λ (m : Mark). m.end) is_a))
-        ]
+          elim (cons_cases first marks b right) [
+            | inl is_b ↦ sym is_a ∙ is_b
+            | inr later ↦ let behind = behind_each first.end marks b rise.0 later in absurd (omega (arith, behind, e, ap (λ (m : Mark). m.end) is_a))
+          ]
       | inr more ↦
-        elim (cons_cases first marks b right) [
-          | inl is_b ↦ let behind = behind_each first.end marks a rise.0 more in absurd (omega (arith, behind, e, ap (λ (m : Mark). m.end) is_b))
-          | inr later ↦ one_an_end marks a b rise.1 more later e
-        ]
+          elim (cons_cases first marks b right) [
+            | inl is_b ↦ let behind = behind_each first.end marks a rise.0 more in absurd (omega (arith, behind, e, ap (λ (m : Mark). m.end) is_b))
+            | inr later ↦ one_an_end marks a b rise.1 more later e
+          ]
     ]
 
 abbrev ends : List Mark → List ℕ

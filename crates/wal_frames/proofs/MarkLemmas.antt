@@ -63,7 +63,7 @@ module _ (h : WalHeader) where
   in_own : (none : Bool) (own mark : Mark) → Contains (cond none [] (own ∷ [])) mark → (none ≡ false) × (own ≡ mark)
   in_own true own mark among = absurd (omega (arith, among.1))
   in_own false own mark among =
-      elim (Contains-push_cases [] own mark among) [ | inl none ↦ absurd (omega (arith, none.1)) | inr same ↦ (refl, same) ]
+      elim (Contains-push_cases [] own mark among) [ inl none ↦ absurd (omega (arith, none.1)) | inr same ↦ (refl, same) ]
 
   -- the mark is that of one of the frames, which stand behind others
   pub record IsBehind (before frames : List (List ℕ)) (mark : Mark) : Type 0 where
@@ -79,25 +79,25 @@ module _ (h : WalHeader) where
   is_behind before (frame ∷ frames) mark among =
       elim (Contains-append_cases (own_mark h before frame) (marks_behind h (before ++ frame ∷ []) frames) mark among) [
         | inl here ↦
-          let own = in_own (eqb (commit_size frame) 0) (mark_of h before frame) mark here in
-          record {
-            front = [];
-            frame = frame;
-            behind = frames;
-            split = refl;
-            commits = eqb-false (commit_size frame) 0 own.0;
-            is = sym own.1 ∙ ap (λ (passed : List (List ℕ)). mark_of h passed frame) (sym (append-nil before));
-          }
+            let own = in_own (eqb (commit_size frame) 0) (mark_of h before frame) mark here in
+            record {
+              front = [];
+              frame = frame;
+              behind = frames;
+              split = refl;
+              commits = eqb-false (commit_size frame) 0 own.0;
+              is = sym own.1 ∙ ap (λ (passed : List (List ℕ)). mark_of h passed frame) (sym (append-nil before));
+            }
         | inr later ↦
-          let found = is_behind (before ++ frame ∷ []) frames mark later in
-          record {
-            front = frame ∷ found.front;
-            frame = found.frame;
-            behind = found.behind;
-            split = ap (λ (fs : List (List ℕ)). frame ∷ fs) found.split;
-            commits = found.commits;
-            is = found.is ∙ ap (λ (passed : List (List ℕ)). mark_of h passed found.frame) (append_assoc before (frame ∷ []) found.front);
-          }
+            let found = is_behind (before ++ frame ∷ []) frames mark later in
+            record {
+              front = frame ∷ found.front;
+              frame = found.frame;
+              behind = found.behind;
+              split = ap (λ (fs : List (List ℕ)). frame ∷ fs) found.split;
+              commits = found.commits;
+              is = found.is ∙ ap (λ (passed : List (List ℕ)). mark_of h passed found.frame) (append_assoc before (frame ∷ []) found.front);
+            }
       ]
 
   pub has_mark : (before front : List (List ℕ)) (frame : List ℕ) (behind : List (List ℕ)) → commit_size frame ≢ 0 → Contains (marks_behind h before (front ++ frame ∷ behind)) (mark_of h (before ++ front) frame)
@@ -108,8 +108,8 @@ module _ (h : WalHeader) where
       let own : Contains (own_mark h passed frame) mark = rw none (Contains-push [] mark) in
       subst (λ (ms : List Mark). Contains ms mark) (sym (marks-append before front (frame ∷ behind)))
       (
-        Contains-append_right (marks_behind h before front) (marks_behind h passed (frame ∷ behind)) mark
-        (Contains-append_left (own_mark h passed frame) (marks_behind h (passed ++ frame ∷ []) behind) mark own)
+      Contains-append_right (marks_behind h before front) (marks_behind h passed (frame ∷ behind)) mark
+      (Contains-append_left (own_mark h passed frame) (marks_behind h (passed ++ frame ∷ []) behind) mark own)
       )
 
 pub mark_stands : (log : List ℕ) (h : WalHeader) (mark : Mark) → read_header log ≡ Ok h → IsMark log mark → IsMarkOf h (frames_under h log) mark

@@ -1,5 +1,5 @@
 -- The view at a mark, and at rest.
-use Rattle.std.proofs.Common.{◌≡◌, ◌≢◌, ◌∙◌, ℕ, zero, suc, ◌+◌, ◌-◌, ◌*◌, ◌/◌, ◌<◌, ◌≤◌, Bool, true, false, cond, eqb, max, List, [], ◌∷◌, ◌++◌, length, take, drop, map, replicate, Option, Some, None, unwrap_or, Ok, sym, ap, subst, refl, inl, inr, arith, length-append, length-drop, append_assoc}
+use Rattle.std.proofs.Common.{◌≡◌, ◌∙◌, ℕ, zero, suc, ◌+◌, ◌-◌, ◌*◌, ◌/◌, ◌<◌, ◌≤◌, Bool, true, false, cond, eqb, max, List, [], ◌∷◌, ◌++◌, length, take, drop, map, replicate, Option, Some, None, unwrap_or, Ok, sym, ap, subst, refl, inl, inr, arith, length-append, length-drop, append_assoc}
 use Rattle.std.specs.Option.{option_or}
 use Rattle.std.specs.List.{AllByRecursion, range_with_len, slice_get}
 use Rattle.std.specs.Simd.{first_chunks}
@@ -8,17 +8,17 @@ use Rattle.std.proofs.lemmas.Bool.{eq-eqb, ne_eqb, cases_lt}
 use Rattle.std.proofs.lemmas.List.{length-replicate, length-take-le, take_at, drop_at, drop_all, drop-drop, drop-append-le, take-replicate, drop-replicate, take-append-drop}
 use Rattle.std.proofs.lemmas.List.FromFn.{length-map-range_with_len}
 use Rattle.ls_base.specs.PageSize.{IsPageSize, lock_page}
-use Rattle.ls_base.specs.State.{State, HasPageSize, HasBlankLockPage, IsState, page_of}
+use Rattle.ls_base.specs.State.{State, IsState, page_of}
 use Rattle.ls_base.proofs.StateLemmas.{page_of-past}
 use Rattle.ls_base.specs.declared.mark.Mark.{Mark}
 use Rattle.wal_frames.specs.declared.header.WalHeader.{WalHeader}
 use Rattle.wal_frames.specs.WalFormat.{read_header}
 use Rattle.wal_frames.specs.WalFrame.{frame_length, page_number, frame_page}
-use Rattle.wal_frames.specs.ValidPrefix.{whole_frames, frames_under, valid_frames}
-use Rattle.wal_frames.specs.Marks.{end_of, IsMark}
+use Rattle.wal_frames.specs.ValidPrefix.{whole_frames, frames_under}
+use Rattle.wal_frames.specs.Marks.{IsMark}
 use Rattle.wal_frames.specs.PrefixLaws.{IsMarkOf}
-use Rattle.wal_frames.specs.View.{frames_up_to, frames_to, frames_page, file_page, unless_locked, page_at_mark, view_under, view_at, file_pages, page_at_rest, view_at_rest}
-use Rattle.wal_frames.specs.ViewLaws.{IsView, padded, IsRestView}
+use Rattle.wal_frames.specs.View.{frames_up_to, frames_to, frames_page, file_page, unless_locked, page_at_mark, view_under, view_at, file_pages, page_at_rest}
+use Rattle.wal_frames.specs.ViewLaws.{IsView, IsRestView}
 use Rattle.wal_frames.proofs.AcceptedLemmas.{Accepts, accepts, read_header-append}
 use Rattle.wal_frames.proofs.ChunkLemmas.{AreLong}
 use Rattle.wal_frames.proofs.CutLemmas.{quotient, whole_frames-long, chunks_in_front}
@@ -56,9 +56,9 @@ module _ (f : ℕ → List ℕ) where
       elim (cases_lt n (lock_page size)) [
         | inl past ↦ let none : None ≡ Some page = sym (no_page (Some size) n (lock_page size) past) ∙ found in absurd cc
         | inr upto ↦
-          let made : Some (f (lock_page size)) ≡ Some page = sym (page_made (Some size) n (lock_page size) (omega arith) upto) ∙ found in
-          let same : f (lock_page size) ≡ page = cc in
-          sym same ∙ blank
+            let made : Some (f (lock_page size)) ≡ Some page = sym (page_made (Some size) n (lock_page size) (omega arith) upto) ∙ found in
+            let same : f (lock_page size) ≡ page = cc in
+            sym same ∙ blank
       ]
 
   -- pages of the page size, with zeros at the lock page, make a state
@@ -225,15 +225,15 @@ page_padded : (size at more : ℕ) (file : List ℕ) → at + size ≤ length fi
 page_padded size at more file fits =
     elim (cases_lt (length file) at) [
       | inr within ↦
-        take_padded size (drop at file) size more (omega arith) (omega (arith, fits, within, length-drop at file))
-        ∙ ap (λ (xs : List ℕ). take size xs) (sym (drop-append-le at file (replicate more 0) within))
+          take_padded size (drop at file) size more (omega arith) (omega (arith, fits, within, length-drop at file))
+          ∙ ap (λ (xs : List ℕ). take size xs) (sym (drop-append-le at file (replicate more 0) within))
       | inl past ↦
-        let none : drop at file ≡ [] = drop_all at file (omega (arith, past)) in
-        let behind : drop at (file ++ replicate more 0) ≡ replicate (more - (at - length file)) 0 =
-        ap (λ (n : ℕ). drop n (file ++ replicate more 0)) (omega (arith, past)) ∙ sym (drop-drop (at - length file) (length file) (file ++ replicate more 0))
-        ∙ ap (drop (at - length file)) (drop_at file (replicate more 0) (length file) refl) ∙ drop-replicate (at - length file) more 0 in
-        ap (λ (xs : List ℕ). take size (xs ++ replicate size 0)) none ∙ take_padded size [] size (more - (at - length file)) (omega arith) (omega (arith, fits, past))
-        ∙ ap (λ (xs : List ℕ). take size xs) (sym behind)
+          let none : drop at file ≡ [] = drop_all at file (omega (arith, past)) in
+          let behind : drop at (file ++ replicate more 0) ≡ replicate (more - (at - length file)) 0 =
+          ap (λ (n : ℕ). drop n (file ++ replicate more 0)) (omega (arith, past)) ∙ sym (drop-drop (at - length file) (length file) (file ++ replicate more 0))
+          ∙ ap (drop (at - length file)) (drop_at file (replicate more 0) (length file) refl) ∙ drop-replicate (at - length file) more 0 in
+          ap (λ (xs : List ℕ). take size (xs ++ replicate size 0)) none ∙ take_padded size [] size (more - (at - length file)) (omega arith) (omega (arith, fits, past))
+          ∙ ap (λ (xs : List ℕ). take size xs) (sym behind)
     ]
 
 pub enough_pages : (size : ℕ) (file : List ℕ) → 1 ≤ size → length file ≤ file_pages size file * size

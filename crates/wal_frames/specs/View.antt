@@ -6,6 +6,9 @@ use Rattle.std.specs.List.{range_with_len}
 use Rattle.ls_base.specs.PageSize.{lock_page}
 use Rattle.ls_base.specs.State.{State, empty_state}
 use Rattle.ls_base.specs.declared.mark.Mark.{Mark}
+use Rattle.ls_base.specs.declared.place.Place.{Place}
+use Rattle.ls_base.specs.declared.place.Place.TheVariants.{Rest}
+use Rattle.ls_sums.specs.PageSum.{rest_sum}
 use Rattle.wal_frames.specs.declared.header.WalHeader.{WalHeader}
 use Rattle.wal_frames.specs.WalFormat.{read_header}
 use Rattle.wal_frames.specs.WalFrame.{frame_length, page_number, frame_page}
@@ -59,3 +62,7 @@ page_at_rest size file number = unless_locked size number (file_page size file n
 abbrev pub view_at_rest : ℕ → List ℕ → State
 view_at_rest size file =
     record { page_size = Some size; pages = map (page_at_rest size file) (range_with_len 1 (file_pages size file)) }
+
+-- its place
+abbrev pub rest_place : ℕ → List ℕ → Place
+rest_place size file = Rest (rest_sum size (view_at_rest size file).pages)

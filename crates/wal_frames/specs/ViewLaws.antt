@@ -9,7 +9,7 @@ use Rattle.wal_frames.specs.WalFormat.{read_header}
 use Rattle.wal_frames.specs.WalFrame.{frame_length}
 use Rattle.wal_frames.specs.ValidPrefix.{valid_frames}
 use Rattle.wal_frames.specs.Marks.{IsMark}
-use Rattle.wal_frames.specs.View.{frames_up_to, frames_to, page_at_mark, page_at_rest, view_at, file_pages, view_at_rest}
+use Rattle.wal_frames.specs.View.{frames_up_to, frames_to, page_at_mark, view_at, file_pages, view_at_rest}
 
 -- ---- at a mark
 

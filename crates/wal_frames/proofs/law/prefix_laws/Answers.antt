@@ -1,5 +1,3 @@
-use Rattle.std.proofs.Common.{sym, ap, subst}
-use Rattle.wal_frames.specs.PrefixLaws.{IsMarkOf}
 use Rattle.wal_frames.proofs.LongestLemmas.{is_longest}
 use Rattle.wal_frames.proofs.MarkLemmas.{valid_is, mark_stands, stands_mark}
 use Rattle.wal_frames.proofs.LogLemmas.{marks_rise}
