@@ -1,8 +1,9 @@
 //! The pages of a change, by number.
 
-ghost use Rattle.std.specs.Prelude.{◌≡◌, OnOk, OnErr, option_copied};
+ghost use Rattle.std.specs.Prelude.{◌≡◌, ℕ, ◌<◌, ◌≤◌, length, slice_index, OnOk, OnErr, option_copied};
 ghost use Rattle.std.specs.FinMap as map;
 ghost use Rattle.std.specs.List.{slice_get};
+ghost use Rattle.std.specs.List.Sorted.{IsStrictlyIncreasing};
 
 use crate::memory::Memory;
 use crate::page::Page;
@@ -14,10 +15,12 @@ use std::marker::Model;
 #[derive(Debug, Drop)]
 pub struct ChangePages {
     pages: BTreeMap<u32, Page>,
+    // The numbers of the pages in rising order, so that they are found by their place.
+    numbers: Vec<u32>,
 }
 
 impl Model for ChangePages {
-    ghost use Rattle.std.specs.Prelude.{ℕ, List};
+    ghost use Rattle.std.specs.Prelude.{◌≡◌, ℕ, List};
     ghost use Rattle.std.specs.Ordering.{nat_cmp};
     ghost use Rattle.std.specs.FinMap as map;
     ghost use Rattle.std.specs.Coded.{coded_ℕ, coded_list};
@@ -27,6 +30,8 @@ impl Model for ChangePages {
     ghost coded = { map.code coded_ℕ (coded_list coded_ℕ) };
 
     ghost view = { λ c. map.from_entries c.pages.entries };
+
+    ghost invariant = { λ c. c.numbers.items ≡ map.keys (map.from_entries {R = nat_cmp} c.pages.entries) };
 }
 
 impl ChangePages {
@@ -36,6 +41,7 @@ impl ChangePages {
     {
         ChangePages {
             pages: BTreeMap::new(alloc),
+            numbers: Vec::new(alloc),
         }
     }
 
@@ -45,7 +51,12 @@ impl ChangePages {
         ensures ok { OnOk result (self.new ≡ map.insert self.old number page) }
         ensures err { OnErr result (self.new ≡ self.old) }
     {
-        self.pages.insert(number, page)?;
+        self.numbers.reserve(1)?;
+        let at = rank(self.numbers.as_slice(), number);
+        let old = self.pages.insert(number, page)?;
+        if old.is_none() {
+            self.numbers.insert(at, number)?;
+        }
         Ok(())
     }
 
@@ -61,6 +72,16 @@ impl ChangePages {
     pub fn number_at(&self, at: u64) -> Option<u32>
         ensures { result ≡ slice_get (map.keys self.now) at }
     {
-        self.pages.keys().nth(at as usize).copied()
+        self.numbers.get(at as usize).copied()
     }
+}
+
+/// How many of the rising numbers are below this one.
+fn rank(numbers: &[u32], number: u32) -> usize
+    requires { IsStrictlyIncreasing numbers.now }
+    ensures within { result ≤ length numbers.now }
+    ensures below { (j : ℕ) → j < result → slice_index numbers.now j < number }
+    ensures above { (j : ℕ) → result ≤ j → j < length numbers.now → number ≤ slice_index numbers.now j }
+{
+    numbers.partition_point(|other| *other < number)
 }
