@@ -37,9 +37,13 @@ all_further None best next more is = tt
 all_further (Some name) best next more is = matched_further best next name more is
 
 -- a chosen one of two that are within is within
-pub chosen_within : (P : FileName → Type 0) (first second result : Option FileName) → IfSome result (λ name. (first ≡ Some name) ⊎ (second ≡ Some name)) → IfSome first P → IfSome second P → IfSome result P
+pub chosen_within : {A : Type 0} (P : A → Type 0) (first second result : Option A) → IfSome result (λ one. (first ≡ Some one) ⊎ (second ≡ Some one))
+    → IfSome first P → IfSome second P → IfSome result P
 chosen_within P first second None one p q = tt
-chosen_within P first second (Some name) one p q = elim one [ inl e ↦ subst (λ o. IfSome o P) e p | inr e ↦ subst (λ o. IfSome o P) e q ]
+chosen_within P first second (Some chosen) one p q = elim one [
+  | inl e ↦ subst (λ o. IfSome o P) e p
+  | inr e ↦ subst (λ o. IfSome o P) e q
+]
 
 -- one more name of the level taken in, or passed over
 pub taken_more : (names : List FileName) (t after : ℕ) (run next : Run) (name : FileName) → IsRun names t after run → slice_get names run.at ≡ Some name → next.level ≡ run.level → next.at ≡ run.at + 1
@@ -106,7 +110,7 @@ pub record HasPlace (level : ℕ) : Type 0 where
 test_is : (known level : ℕ) → (known == level) ≡ true → known ≡ level
 test_is known level e = eqb-true known level e
 
-place_of : (level : ℕ) → IsTrue (is_level level) → HasPlace level
+pub place_of : (level : ℕ) → IsTrue (is_level level) → HasPlace level
 place_of level known =
     elim (or_cases (0 == level) _ known) [
       | inl e ↦ record { place = 0; below = omega arith; is = test_is 0 level e }

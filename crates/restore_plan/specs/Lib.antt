@@ -5,3 +5,4 @@ pub mod Moment
 pub mod Progress
 pub mod Retained
 pub mod Run
+pub mod Walk

@@ -12,10 +12,12 @@ mod choice;
 mod listing;
 mod moment;
 mod reach;
+mod rising;
 mod run;
 mod sweep;
 #[cfg(test)]
 mod tests;
+mod walk;
 
 pub use chain::{PlanFault, plan};
 pub use moment::last_at;

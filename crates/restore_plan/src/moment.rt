@@ -9,6 +9,7 @@ ghost use Rattle.restore_plan.specs.Moment.{IsRetainedAt, IsLastAt};
 
 use crate::listing::Listing;
 use crate::reach::greatest_retained;
+use crate::rising::{is_by, is_rising, last_of_rising};
 use ls_base::Txid;
 use replica_store::Dated;
 
@@ -28,7 +29,7 @@ fn moment_of(dated: &[Dated], t: Txid) -> Option<u64>
 fn is_early(dated: &[Dated], t: Txid, moment: u64) -> bool
     ensures { IsTrue result ↔ IsSomeAnd (moment_of dated.now t) (λ own. own ≤ moment) }
 {
-    moment_of(dated, t).is_some_and(|own| own <= moment)
+    is_by(moment_of(dated, t), moment)
 }
 
 /// The greatest transaction up to the bound with which a name at or before the moment ends. It is 0 where
@@ -48,22 +49,36 @@ fn greatest_end(dated: &[Dated], moment: u64, bound: u64) -> u64
     greatest
 }
 
+/// The last retained transaction at or before the moment, searched from the greatest end down.
+fn last_of_any(dated: &[Dated], names: &Listing<'_>, moment: u64) -> Option<Txid>
+    requires same { names.now ≡ names_of dated.now }
+    requires in_order { IsListOrdered names.now }
+    ensures found { IfSome result (λ t. IsLastAt dated.now moment t) }
+    ensures none { IfNone result ((t : ℕ) → IsRetainedAt dated.now moment t → ⊥) }
+{
+    let mut bound = u64::MAX;
+    loop {
+        let t = Txid::new(greatest_end(dated, moment, bound))?;
+        let greatest = greatest_retained(names, t.number());
+        if greatest == t.number() && is_early(dated, t, moment) {
+            return Some(t);
+        }
+        bound = greatest.min(t.number() - 1);
+    }
+}
+
 /// The greatest retained transaction whose moment is at or before this one, in milliseconds since
 /// 1970-01-01T00:00:00Z. Its moment is that of the first name that ends with it. `None` exactly where there is
-/// none. The names stand in list order. Takes no memory.
+/// none. The names stand in list order. Takes no memory. It is one pass where in each level the ends of the names
+/// never fall, as in each replica that this program writes.
 pub fn last_at(dated: &[Dated], moment: u64) -> Option<Txid>
     requires in_order { IsListOrdered (names_of dated.now) }
     ensures found { IfSome result (λ t. IsLastAt dated.now moment t) }
     ensures none { IfNone result ((t : ℕ) → IsRetainedAt dated.now moment t → ⊥) }
 {
     let names = Listing::of_dated(dated);
-    let mut bound = u64::MAX;
-    loop {
-        let t = Txid::new(greatest_end(dated, moment, bound))?;
-        let greatest = greatest_retained(&names, t.number());
-        if greatest == t.number() && is_early(dated, t, moment) {
-            return Some(t);
-        }
-        bound = greatest.min(t.number() - 1);
+    if is_rising(&names) {
+        return last_of_rising(dated, moment);
     }
+    last_of_any(dated, &names, moment)
 }
