@@ -5,7 +5,7 @@ use Rattle.std.proofs.lemmas.List.{length-append}
 use Rattle.crash_disk.specs.declared.event.Event.{Event}
 use Rattle.crash_disk.specs.declared.event.Event.TheVariants.{Created, Synced}
 use Rattle.crash_disk.specs.Files.{file_at}
-use Rattle.crash_disk.specs.FileLaws.{file_at-Created-here, file_at-Created-other, file_at-Synced, file_at-NamesSynced, file_at-Renamed-to, file_at-Renamed-from, file_at-Renamed-other, file_at-Removed-other}
+use Rattle.crash_disk.proofs.FileLaws.{file_at-Created-here, file_at-Created-other, file_at-Synced, file_at-NamesSynced, file_at-Renamed-to, file_at-Renamed-from, file_at-Renamed-other, file_at-Removed-other}
 use Rattle.restore_apply.specs.Staging.{temporary_name, MayBegin, Fills, Names, MayName, Began, Synchronized, Named, Settles, MaySettle, Left, Cleared, WritesFile, MayWriteFile}
 use Rattle.restore_apply.proofs.StopLemmas.{stop_may_name, stop_settled, settled_stays, stop_cleared}
 use Rattle.restore_apply.proofs.StagingLemmas.{file_at-appended-here, file_at-appended-other}

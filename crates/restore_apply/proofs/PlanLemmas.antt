@@ -4,7 +4,7 @@ use Rattle.std.specs.Prelude.{unwrap_or, slice_get, not, ◌⊎◌, Result, Ok, 
 use Rattle.std.specs.List.{AllByRecursion}
 use Rattle.std.proofs.lemmas.Bool.Decides.{nat_tests}
 use Rattle.std.proofs.lemmas.List.{take_more, take_all, take-append-drop, drop_more}
-use Rattle.crash_disk.specs.declared.event.Event.{Event}
+use Rattle.crash_disk.specs.Files.{Files, files_after}
 use Rattle.crash_disk.specs.Told.{Told, IfTold}
 use Rattle.ltx_format.specs.declared.file.LtxFile.{LtxFile}
 use Rattle.ltx_format.specs.LtxFormat.{IsLtxFile, change_of}
@@ -16,7 +16,7 @@ use Rattle.replica_store.specs.Listing.{path_of, bytes_under}
 use Rattle.restore_apply.specs.declared.restored.RestoreFault.{RestoreFault}
 use Rattle.restore_apply.specs.declared.restored.RestoreFault.TheVariants.{Damaged, PageMissing, Store, Target, Memory}
 use Rattle.restore_apply.specs.PlanFiles.{FitsSize, IsDamageUnder, IsLastOf, ExplainsRead, ExplainsReads}
-use Rattle.restore_apply.specs.Restoring.{IsOnlyFileUnder, AreOnlyFilesUnder, IsFirstDamaged}
+use Rattle.restore_apply.specs.Restoring.{IsFirstDamaged}
 use Rattle.restore_apply.specs.Sources.{HaveOneSize}
 
 -- the page size of the files so far, where there is one
@@ -33,11 +33,6 @@ pub all_push : {X : Type 0} (P : X → Type 0) (xs : List X) (x : X) → AllByRe
 all_push P [] x all one = (one, tt)
 all_push P (y ∷ xs) x (head, all) one = (head, all_push P xs x all one)
 
-pub all_at : {X : Type 0} (P : X → Type 0) (xs : List X) (at : ℕ) (x : X) → AllByRecursion P xs → slice_get xs at ≡ Some x → P x
-all_at P [] at x all e = absurd cc
-all_at P (y ∷ xs) zero x (head, all) e = let same : y ≡ x = cc in subst P same head
-all_at P (y ∷ xs) (suc at) x (head, all) e = all_at P xs at x all e
-
 push_some : {X : Type 0} (xs : List X) (x : X) → xs ++ x ∷ [] ≢ []
 push_some [] x e = cc
 push_some (y ∷ xs) x e = cc
@@ -48,32 +43,19 @@ wanted_next None files file is fits = (push_some files file, subst (λ (before :
 wanted_next (Some size) files file (some, each) fits =
     (push_some files file, all_push (λ (f : LtxFile). f.header.size ≡ file.header.size) files file (subst (λ (n : ℕ). HavePageSize n files) fits each) refl)
 
-pub files_next : (events : List Event) (names : List FileName) (files : List LtxFile) (name : FileName) (file : LtxFile)
-    → AreFilesUnder events names files → IsFileUnder events name file → AreFilesUnder events (names ++ name ∷ []) (files ++ file ∷ [])
-files_next events [] [] name file are is = (is, tt)
-files_next events [] (f ∷ files) name file are is = absurd are
-files_next events (n ∷ names) [] name file are is = absurd are
-files_next events (n ∷ names) (f ∷ files) name file (head, are) is = (head, files_next events names files name file are is)
+pub files_next : (store : Files) (names : List FileName) (files : List LtxFile) (name : FileName) (file : LtxFile)
+    → AreFilesUnder store names files → IsFileUnder store name file → AreFilesUnder store (names ++ name ∷ []) (files ++ file ∷ [])
+files_next store [] [] name file are is = (is, tt)
+files_next store [] (f ∷ files) name file are is = absurd are
+files_next store (n ∷ names) [] name file are is = absurd are
+files_next store (n ∷ names) (f ∷ files) name file (head, are) is = (head, files_next store names files name file are is)
 
 -- the same by the place in the plan
-pub files_more : (events : List Event) (plan : List FileName) (at : ℕ) (files : List LtxFile) (name : FileName) (file : LtxFile) → at < length plan → name ≡ get_or plan at name
-    → AreFilesUnder events (take at plan) files → IsFileUnder events name file → AreFilesUnder events (take (at + 1) plan) (files ++ file ∷ [])
-files_more events plan at files name file below is-name are is =
+pub files_more : (store : Files) (plan : List FileName) (at : ℕ) (files : List LtxFile) (name : FileName) (file : LtxFile) → at < length plan → name ≡ get_or plan at name
+    → AreFilesUnder store (take at plan) files → IsFileUnder store name file → AreFilesUnder store (take (at + 1) plan) (files ++ file ∷ [])
+files_more store plan at files name file below is-name are is =
     let taken : take (at + 1) plan ≡ take at plan ++ name ∷ [] = take_more plan at name below ∙ ap (λ (n : FileName). take at plan ++ n ∷ []) (sym is-name) in
-    subst (λ (names : List FileName). AreFilesUnder events names (files ++ file ∷ [])) (sym taken) (files_next events (take at plan) files name file are is)
-
-only_next : (events : List Event) (names : List FileName) (files : List LtxFile) (name : FileName) (file : LtxFile)
-    → AreOnlyFilesUnder events names files → IsOnlyFileUnder events name file → AreOnlyFilesUnder events (names ++ name ∷ []) (files ++ file ∷ [])
-only_next events [] [] name file are is = (is, tt)
-only_next events [] (f ∷ files) name file are is = absurd are
-only_next events (n ∷ names) [] name file are is = absurd are
-only_next events (n ∷ names) (f ∷ files) name file (head, are) is = (head, only_next events names files name file are is)
-
-pub only_more : (events : List Event) (plan : List FileName) (at : ℕ) (files : List LtxFile) (name : FileName) (file : LtxFile) → at < length plan → name ≡ get_or plan at name
-    → AreOnlyFilesUnder events (take at plan) files → IsOnlyFileUnder events name file → AreOnlyFilesUnder events (take (at + 1) plan) (files ++ file ∷ [])
-only_more events plan at files name file below is-name are is =
-    let taken : take (at + 1) plan ≡ take at plan ++ name ∷ [] = take_more plan at name below ∙ ap (λ (n : FileName). take at plan ++ n ∷ []) (sym is-name) in
-    subst (λ (names : List FileName). AreOnlyFilesUnder events names (files ++ file ∷ [])) (sym taken) (only_next events (take at plan) files name file are is)
+    subst (λ (names : List FileName). AreFilesUnder store names (files ++ file ∷ [])) (sym taken) (files_next store (take at plan) files name file are is)
 
 pub size_of_wanted : (wanted : Option ℕ) (files : List LtxFile) → IsWanted wanted files → HavePageSize (unwrap_or wanted 0) files
 size_of_wanted None files is = subst (λ (fs : List LtxFile). HavePageSize 0 fs) (sym is) tt
@@ -83,27 +65,27 @@ pub one_size : (wanted : Option ℕ) (files : List LtxFile) → IsWanted wanted 
 one_size wanted files is = record { size = unwrap_or wanted 0; each = size_of_wanted wanted files is }
 
 -- before the first file no size is wanted
-not_wanted : (events : List Event) (wanted : Option ℕ) (files : List LtxFile) (names : List FileName) → names ≡ [] → AreFilesUnder events names files → IsWanted wanted files → wanted ≡ None
-not_wanted events None files names none are is = refl
-not_wanted events (Some size) [] names none are is = absurd (is.0 refl)
-not_wanted events (Some size) (f ∷ files) names none are is = absurd (subst (λ (ns : List FileName). AreFilesUnder events ns (f ∷ files)) none are)
+not_wanted : (store : Files) (wanted : Option ℕ) (files : List LtxFile) (names : List FileName) → names ≡ [] → AreFilesUnder store names files → IsWanted wanted files → wanted ≡ None
+not_wanted store None files names none are is = refl
+not_wanted store (Some size) [] names none are is = absurd (is.0 refl)
+not_wanted store (Some size) (f ∷ files) names none are is = absurd (subst (λ (ns : List FileName). AreFilesUnder store ns (f ∷ files)) none are)
 
 pub split_at : (plan : List FileName) (at : ℕ) (name : FileName) → at < length plan → name ≡ get_or plan at name → plan ≡ take at plan ++ name ∷ drop (at + 1) plan
 split_at plan at name below is =
     sym (take-append-drop at plan) ∙ ap (λ rest. take at plan ++ rest) (drop_more plan at name below) ∙ ap (λ (n : FileName). take at plan ++ n ∷ drop (at + 1) plan) (sym is)
 
 -- a damaged file behind files that were read
-pub first_damaged : (events : List Event) (plan : List FileName) (at : ℕ) (files : List LtxFile) (wanted : Option ℕ) (name : FileName) (damage : Damage) → at < length plan → name ≡ get_or plan at name
-    → AreFilesUnder events (take at plan) files → IsWanted wanted files → IsDamageUnder (bytes_under events (path_of name)) name wanted damage → IsFirstDamaged events plan name damage
-first_damaged events plan at files wanted name damage below is are sized damaged = record {
+pub first_damaged : (store : Files) (plan : List FileName) (at : ℕ) (files : List LtxFile) (wanted : Option ℕ) (name : FileName) (damage : Damage) → at < length plan → name ≡ get_or plan at name
+    → AreFilesUnder store (take at plan) files → IsWanted wanted files → IsDamageUnder (bytes_under store (path_of name)) name wanted damage → IsFirstDamaged store plan name damage
+first_damaged store plan at files wanted name damage below is are sized damaged = record {
   before = take at plan;
   after = drop (at + 1) plan;
   split = split_at plan at name below is;
-  files = files;
-  read = are;
+  read = files;
+  are = are;
   size = unwrap_or wanted 0;
   one_size = size_of_wanted wanted files sized;
-  first = λ none. damaged.first (not_wanted events wanted files (take at plan) none are sized);
+  first = λ none. damaged.first (not_wanted store wanted files (take at plan) none are sized);
   damaged = damaged.damaged;
 }
 
@@ -126,10 +108,10 @@ last_of plan name some =
 
 -- why the file at this place could not be read is why the files of the plan could not be
 pub explains_reads : (old told : Told) (before mid now : ℕ) (plan : List FileName) (at : ℕ) (files : List LtxFile) (wanted : Option ℕ) (name : FileName) (fault : RestoreFault) → told ≡ old → before ≤ mid
-    → at < length plan → name ≡ get_or plan at name → IfTold old (λ events. AreFilesUnder events (take at plan) files) → IsWanted wanted files
+    → at < length plan → name ≡ get_or plan at name → IfTold old (λ events. AreFilesUnder (files_after events) (take at plan) files) → IsWanted wanted files
     → ExplainsRead told mid now name wanted fault → ExplainsReads old before now plan fault
 explains_reads old told before mid now plan at files wanted name (Damaged other damage) same later below is are sized (name_is, damaged) =
-    λ events e. subst (λ (n : FileName). IsFirstDamaged events plan n damage) (sym name_is) (first_damaged events plan at files wanted name damage below is (are events e) sized (damaged events (same ∙ e)))
+    λ events e. subst (λ (n : FileName). IsFirstDamaged (files_after events) plan n damage) (sym name_is) (first_damaged (files_after events) plan at files wanted name damage below is (are events e) sized (damaged events (same ∙ e)))
 explains_reads old told before mid now plan at files wanted name (PageMissing other number) same later below is are sized why = absurd why
 explains_reads old told before mid now plan at files wanted name (Store fault) same later below is are sized why = record { least = omega (arith, why.least, later) }
 explains_reads old told before mid now plan at files wanted name (Target fault) same later below is are sized why = absurd why

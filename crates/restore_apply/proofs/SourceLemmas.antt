@@ -9,9 +9,11 @@ use Rattle.std.proofs.lemmas.List.FromFn.{map-range_with_len_more, get_or-map-ra
 use Rattle.std.proofs.lemmas.Bool.{cases_lt}
 use Rattle.std.proofs.lemmas.Option.{slice_get-get_or, slice_get_past, slice_get_within, unwrap_or-slice_get, get_or_from_slice_get}
 use Rattle.std.proofs.Math.Nat.{pow-le-pow_right}
-use Rattle.ls_base.specs.PageSize.{IsPageSize}
-use Rattle.ls_base.specs.State.{State, empty_state, state_bytes}
-use Rattle.ls_base.specs.Change.{Change, IsApplicable, apply, page_after, page_of}
+use Rattle.ls_base.specs.PageSize.{IsPageSize, lock_page}
+use Rattle.ls_base.specs.State.{State, empty_state, state_bytes, page_of}
+use Rattle.ls_base.specs.Change.{Change, IsApplicable, apply, page_after}
+use Rattle.ls_base.proofs.StateLemmas.{page_of-next, all_at, below_lock_page}
+use Rattle.ls_base.proofs.ChangeLemmas.{page_after-below, pages-apply, length-apply}
 use Rattle.ltx_format.specs.declared.file.LtxFile.{LtxFile}
 use Rattle.ltx_format.specs.LtxFormat.{change_of}
 use Rattle.replica_store.specs.Applying.{AppliesTo, MakeState, LacksPage}
@@ -21,7 +23,6 @@ use Rattle.restore_apply.specs.declared.restored.RestoreFault.{RestoreFault}
 use Rattle.restore_apply.specs.declared.restored.RestoreFault.TheVariants.{Damaged, PageMissing, Store, Target, Memory}
 use Rattle.restore_apply.specs.PlanFiles.{IsFormed}
 use Rattle.restore_apply.specs.Sources.{page_in, sourced_page, sourced_bytes, AreSourcesOf, MakeSources, source_after, FollowSources, LacksSource, IsMissingAt, ExplainsFollow, ExplainsSources, HaveOneSize, HoldsEachPage}
-use Rattle.restore_apply.proofs.PlanLemmas.{all_at}
 use Rattle.restore_apply.proofs.StagingLemmas.{concat-append}
 
 -- ---- options
@@ -99,43 +100,52 @@ page_or : (f : ℕ → Option (List ℕ)) (place : ℕ) (new page : Option (List
 page_or f place None page old here before = before
 page_or f place (Some x) page old here before = here
 
-page_of_next : (s : State) (at : ℕ) → page_of s (at + 1) ≡ slice_get s.pages at
-page_of_next s at = rw add-one refl
+-- ---- no page of a file reaches the lock page
+
+some_bytes : (n : ℕ) → IsPageSize n → 0 < n
+some_bytes n (k, low, high, is) = let bound : 2 ^ 9 ≤ 2 ^ k = pow-le-pow_right {n = 2} (omega arith) low in omega (arith, is, bound)
+
+-- a file holds at most 2^30 bytes of pages
+below_lock : (file : LtxFile) (at : ℕ) → IsFormed file → at < file.header.commit → at + 1 < lock_page file.header.size
+below_lock file at formed within =
+    below_lock_page file.header.size file.header.commit (at + 1) (some_bytes file.header.size formed.is.header.size) formed.is.header.small (omega (arith, within))
 
 -- the page of a source after the change is the page after the change
-page_follows : (files : List LtxFile) (sources : List ℕ) (s : State) (place : ℕ) (file : LtxFile) → AreSourcesOf files sources s → slice_get files place ≡ Some file
-    → (at : ℕ) → option_and_then (page_in files (at + 1)) (source_after sources (change_of file) place at) ≡ page_after s (change_of file) (at + 1)
-page_follows files sources s place file are is at =
+page_follows : (files : List LtxFile) (sources : List ℕ) (s : State) (place : ℕ) (file : LtxFile) → AreSourcesOf files sources s → slice_get files place ≡ Some file → IsFormed file
+    → (at : ℕ) → at < file.header.commit → option_and_then (page_in files (at + 1)) (source_after sources (change_of file) place at) ≡ page_after s (change_of file) (at + 1)
+page_follows files sources s place file are is formed at within =
     page_or (page_in files (at + 1)) place (get file.pages (at + 1)) (page_of s (at + 1)) (slice_get sources at) (page_in_file files (at + 1) place file is)
-    (sourced_any files sources s are at (cases_lt at (length sources)) ∙ sym (page_of_next s at))
+    (sourced_any files sources s are at (cases_lt at (length sources)) ∙ sym (page_of-next s at))
+    ∙ sym (page_after-below s (change_of file) (at + 1) (below_lock file at formed within))
 
 or_some : (place : ℕ) (new page : Option (List ℕ)) (old : Option ℕ) → (IsSome old → IsSome page) → IsSome (option_or (option_map (λ _. place) new) old) → IsSome (option_or new page)
 or_some place None page old carries some = carries some
 or_some place (Some x) page old carries some = refl
 
 -- a page with a source after the change is there after the change
-page_has_source : (files : List LtxFile) (sources : List ℕ) (s : State) (place : ℕ) (file : LtxFile) → AreSourcesOf files sources s
-    → (at : ℕ) → IsSome (source_after sources (change_of file) place at) → IsSome (page_after s (change_of file) (at + 1))
-page_has_source files sources s place file are at some =
-    or_some place (get file.pages (at + 1)) (page_of s (at + 1)) (slice_get sources at)
+page_has_source : (files : List LtxFile) (sources : List ℕ) (s : State) (place : ℕ) (file : LtxFile) → AreSourcesOf files sources s → IsFormed file
+    → (at : ℕ) → at < file.header.commit → IsSome (source_after sources (change_of file) place at) → IsSome (page_after s (change_of file) (at + 1))
+page_has_source files sources s place file are formed at within some =
+    subst (λ (o : Option (List ℕ)). IsSome o) (sym (page_after-below s (change_of file) (at + 1) (below_lock file at formed within))) (or_some place (get file.pages (at + 1)) (page_of s (at + 1)) (slice_get sources at)
     (λ old.
     let source = has (slice_get sources at) old in
-    let within : at < length s.pages = omega (arith, slice_get_within sources at source.0 source.1, are.count) in
-    subst (λ (o : Option (List ℕ)). IsSome o) (sym (page_of_next s at)) (there_at s.pages at within))
-    some
+    let inside : at < length s.pages = omega (arith, slice_get_within sources at source.0 source.1, are.count) in
+    subst (λ (o : Option (List ℕ)). IsSome o) (sym (page_of-next s at)) (there_at s.pages at inside))
+    some)
 
 -- a page without a source after the change is missing
-pub lacks_page : (files : List LtxFile) (sources : List ℕ) (s : State) (place number : ℕ) (file : LtxFile) → AreSourcesOf files sources s → slice_get files place ≡ Some file
+pub lacks_page : (files : List LtxFile) (sources : List ℕ) (s : State) (place number : ℕ) (file : LtxFile) → AreSourcesOf files sources s → slice_get files place ≡ Some file → IsFormed file
     → LacksSource sources (change_of file) place number → LacksPage s (change_of file) number
-lacks_page files sources s place number file are is lacks =
+lacks_page files sources s place number file are is formed lacks =
     let c = change_of file in
     subst (LacksPage s c) (sym lacks.number_is) (record {
       positive = omega arith;
       within = omega (arith, lacks.within);
-      missing = sym (page_follows files sources s place file are is lacks.at) ∙ ap (option_and_then (page_in files (lacks.at + 1))) lacks.missing;
+      missing = sym (page_follows files sources s place file are is formed lacks.at lacks.within) ∙ ap (option_and_then (page_in files (lacks.at + 1))) lacks.missing;
       least = λ p low below.
           let back : p - 1 + 1 ≡ p = omega (arith, low) in
-          subst (λ (n : ℕ). IsSome (page_after s c n)) back (page_has_source files sources s place file are (p - 1) (lacks.least (p - 1) (omega (arith, low, below))));
+          subst (λ (n : ℕ). IsSome (page_after s c n)) back (page_has_source files sources s place file are formed (p - 1) (omega (arith, low, below, lacks.number_is, lacks.within))
+          (lacks.least (p - 1) (omega (arith, low, below, lacks.number_is))));
     })
 
 -- ---- states
@@ -162,19 +172,11 @@ size_taken size files zero each = tt
 size_taken size [] (suc count) each = tt
 size_taken size (file ∷ files) (suc count) (head, each) = (head, size_taken size files count each)
 
--- page `at` after the change, in the list of its pages
-pages_at : (s : State) (c : Change) (at : ℕ) → at < c.commit → IsSome (page_after s c (at + 1)) → slice_get (apply s c).pages at ≡ page_after s c (at + 1)
-pages_at s c at below some =
-    let f = λ (p : ℕ). unwrap_or (page_after s c p) [] in
-    let count = length-map-range_with_len f 1 c.commit in
-    slice_get-get_or (map f (range_with_len 1 c.commit)) at [] (omega (arith, below, count))
-    ∙ ap (λ (page : List ℕ). Some page) (get_or-map-range_with_len f 1 c.commit at (at + 1) [] below (omega arith)) ∙ sym (some_unwrapped (page_after s c (at + 1)) some)
-
 module _ (files : List LtxFile) (sources after : List ℕ) (s : State) (place : ℕ) (file : LtxFile)
-    (are : AreSourcesOf files sources s) (is : slice_get files place ≡ Some file) (follow : FollowSources sources (change_of file) place file.header.commit after) where
+    (are : AreSourcesOf files sources s) (is : slice_get files place ≡ Some file) (formed : IsFormed file) (follow : FollowSources sources (change_of file) place file.header.commit after) where
   followed_there : (at : ℕ) → at < file.header.commit → IsSome (page_after s (change_of file) (at + 1))
   followed_there at below =
-      page_has_source files sources s place file are at (subst (λ (o : Option ℕ). IsSome o) (sym (follow.each at below)) (there_at after at (omega (arith, below, follow.count_is))))
+      page_has_source files sources s place file are formed at below (subst (λ (o : Option ℕ). IsSome o) (sym (follow.each at below)) (there_at after at (omega (arith, below, follow.count_is))))
 
   pub followed_fits : (size : ℕ) → HavePageSize size files → MakeState (take place files) s → IsApplicable s (change_of file)
   followed_fits size each makes = record {
@@ -188,11 +190,11 @@ module _ (files : List LtxFile) (sources after : List ℕ) (s : State) (place : 
 
   pub followed_sources : AreSourcesOf files after (apply s (change_of file))
   followed_sources = record {
-    count = follow.count_is ∙ sym (length-map-range_with_len (λ (p : ℕ). unwrap_or (page_after s (change_of file) p) []) 1 file.header.commit);
+    count = follow.count_is ∙ sym (length-apply s (change_of file));
     each = λ at below.
         let within : at < file.header.commit = omega (arith, below, follow.count_is) in
-        ap (option_and_then (page_in files (at + 1))) (sym (follow.each at within)) ∙ page_follows files sources s place file are is at
-        ∙ sym (pages_at s (change_of file) at within (followed_there at within));
+        ap (option_and_then (page_in files (at + 1))) (sym (follow.each at within)) ∙ page_follows files sources s place file are is formed at within
+        ∙ sym (pages-apply s (change_of file) at within (followed_there at within));
   }
 
 taken_more : (files : List LtxFile) (place : ℕ) (file : LtxFile) → slice_get files place ≡ Some file → take (place + 1) files ≡ take place files ++ file ∷ []
@@ -208,30 +210,30 @@ make_none files sources none = record {
 }
 
 -- one file more
-pub make_next : (files : List LtxFile) (place : ℕ) (sources after : List ℕ) (file : LtxFile) → HaveOneSize files → MakeSources files place sources → slice_get files place ≡ Some file
+pub make_next : (files : List LtxFile) (place : ℕ) (sources after : List ℕ) (file : LtxFile) → HaveOneSize files → MakeSources files place sources → slice_get files place ≡ Some file → IsFormed file
     → FollowSources sources (change_of file) place file.header.commit after → MakeSources files (place + 1) after
-make_next files place sources after file size made is follow =
+make_next files place sources after file size made is formed follow =
     let s = made.state in
-    let fits = followed_fits files sources after s place file made.sourced is follow size.size size.each made.makes in
+    let fits = followed_fits files sources after s place file made.sourced is formed follow size.size size.each made.makes in
     record {
       state = apply s (change_of file);
       makes =
           subst (λ (changes : List Change). AppliesTo empty_state changes (apply s (change_of file)))
           (sym (ap (map change_of) (taken_more files place file is) ∙ map_push change_of (take place files) file))
           (applies_then empty_state s (map change_of (take place files)) (change_of file) made.makes fits);
-      sourced = followed_sources files sources after s place file made.sourced is follow;
+      sourced = followed_sources files sources after s place file made.sourced is formed follow;
     }
 
 pub missing_at : (plan : List FileName) (files : List LtxFile) (place number : ℕ) (sources : List ℕ) (file : LtxFile) (name : FileName) → MakeSources files place sources
-    → slice_get files place ≡ Some file → slice_get plan place ≡ Some name → LacksSource sources (change_of file) place number → IsMissingAt plan files name number
-missing_at plan files place number sources file name made is named lacks = record {
+    → slice_get files place ≡ Some file → IsFormed file → slice_get plan place ≡ Some name → LacksSource sources (change_of file) place number → IsMissingAt plan files name number
+missing_at plan files place number sources file name made is formed named lacks = record {
   place = place;
   file = file;
   named = named;
   is = is;
   state = made.state;
   makes = made.makes;
-  lacks = lacks_page files sources made.state place number file made.sourced is lacks;
+  lacks = lacks_page files sources made.state place number file made.sourced is formed lacks;
 }
 
 -- ---- the bytes
@@ -285,13 +287,13 @@ each_page files sources s formed are = record {
 
 -- why a file has no sources is why the files have none
 pub explains_sources : (plan : List FileName) (files : List LtxFile) (place : ℕ) (sources : List ℕ) (file : LtxFile) (name : FileName) (fault : RestoreFault) → MakeSources files place sources
-    → slice_get files place ≡ Some file → slice_get plan place ≡ Some name → ExplainsFollow sources (change_of file) place name fault → ExplainsSources plan files fault
-explains_sources plan files place sources file name (Damaged other damage) made is named why = absurd why
-explains_sources plan files place sources file name (PageMissing other number) made is named (same, lacks) =
-    subst (λ (n : FileName). IsMissingAt plan files n number) (sym same) (missing_at plan files place number sources file name made is named lacks)
-explains_sources plan files place sources file name (Store fault) made is named why = absurd why
-explains_sources plan files place sources file name (Target fault) made is named why = absurd why
-explains_sources plan files place sources file name Memory made is named why = tt
+    → slice_get files place ≡ Some file → IsFormed file → slice_get plan place ≡ Some name → ExplainsFollow sources (change_of file) place name fault → ExplainsSources plan files fault
+explains_sources plan files place sources file name (Damaged other damage) made is formed named why = absurd why
+explains_sources plan files place sources file name (PageMissing other number) made is formed named (same, lacks) =
+    subst (λ (n : FileName). IsMissingAt plan files n number) (sym same) (missing_at plan files place number sources file name made is formed named lacks)
+explains_sources plan files place sources file name (Store fault) made is formed named why = absurd why
+explains_sources plan files place sources file name (Target fault) made is formed named why = absurd why
+explains_sources plan files place sources file name Memory made is formed named why = tt
 
 same_page : (a b : List ℕ) → ◌≡◌ {A = Option (List ℕ)} (Some a) (Some b) → a ≡ b
 same_page a b e = cc

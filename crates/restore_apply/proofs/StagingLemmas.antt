@@ -7,7 +7,7 @@ use Rattle.crash_disk.specs.declared.event.Event.{Event}
 use Rattle.crash_disk.specs.declared.event.Event.TheVariants.{Created, Appended, Synced, Renamed, Removed, NamesSynced}
 use Rattle.crash_disk.specs.Told.{Told, gains, IfTold, GainsOrNot, GainsPrefixOrNot}
 use Rattle.crash_disk.specs.Files.{IsThere, file_at}
-use Rattle.crash_disk.specs.FileLaws.{file_at-Created-here, file_at-Appended-here, file_at-Appended-other, file_at-Synced}
+use Rattle.crash_disk.proofs.FileLaws.{file_at-Created-here, file_at-Appended-here, file_at-Appended-other, file_at-Synced}
 use Rattle.crash_disk.specs.GoesOn.{GoesOn}
 use Rattle.crash_disk.proofs.GoesOnLemmas.{goes_on-gains, goes_on-same, goes_on-then, goes_on-weaker}
 use Rattle.restore_apply.specs.Staging.{appended, OnlyAppends, AppendsGathered, temporary_name, MayBegin, Fills, Names, MayName, Began, Synchronized, Named, Settles, MaySettle, Left, Cleared}
@@ -15,7 +15,7 @@ use Rattle.restore_apply.specs.Staging.{appended, OnlyAppends, AppendsGathered, 
 -- two more
 goes_on-gains_two : (old mid new : Told) (first second : Event) → mid ≡ gains old first → new ≡ gains mid second → GoesOn old new (λ x y. y ≡ second ∷ first ∷ x)
 goes_on-gains_two old mid new first second is_first is_second = record {
-  told = λ events told. (second ∷ first ∷ events, is_second ∙ ap (option_map (λ es. second ∷ es)) (is_first ∙ ap (option_map (λ es. first ∷ es)) told), refl);
+  told = λ events told. (second ∷ first ∷ events, is_second ∙ ap (option_map (λ es. second ∷ es)) (is_first ∙ ap (option_map (λ es. first ∷ es)) told), refl, record { more = second ∷ first ∷ []; is = refl });
   silent = λ silent. is_second ∙ ap (option_map (λ es. second ∷ es)) (is_first ∙ ap (option_map (λ es. first ∷ es)) silent);
 }
 

@@ -8,11 +8,11 @@ use Rattle.crash_disk.specs.declared.event.Event.{Event}
 use Rattle.crash_disk.specs.declared.event.Event.TheVariants.{Synced, Renamed, Removed, NamesSynced}
 use Rattle.crash_disk.specs.CrashLaws.{joined, drafted}
 use Rattle.crash_disk.specs.Images.{IsCrashImage, WasCrashImageSince}
-use Rattle.crash_disk.specs.ImageSteps.{MayStandAt-Removed-other}
-use Rattle.crash_disk.specs.Moments.{since_now, since_more, since_start}
-use Rattle.crash_disk.specs.PutTheorem.{image_with, since_drafted, since_whole, since_named, put_leaves, put_is_safe}
+use Rattle.crash_disk.proofs.ImageSteps.{MayStandAt-Removed-other}
+use Rattle.crash_disk.proofs.Moments.{since_now, since_more, since_start}
+use Rattle.crash_disk.proofs.PutTheorem.{image_with, since_drafted, since_whole, since_named, put_leaves, put_is_safe}
 use Rattle.restore_apply.specs.Staging.{appended, MayBegin, Fills, Names, MayName, Began, Synchronized, Named}
-use Rattle.restore_apply.specs.Stop.{LeavesNothing, LeavesAtMost, Leaves}
+use Rattle.crash_disk.specs.Stop.{LeavesNothing, LeavesAtMost, Leaves}
 
 -- nothing is at most anything
 pub some_if_none : (file : Option (List ℕ)) (P : List ℕ → Type 0) → file ≡ None → IfSome file P

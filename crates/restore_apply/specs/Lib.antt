@@ -1,5 +1,5 @@
-pub mod Stop
 pub mod Staging
 pub mod Restoring
+pub mod RestoreLaws
 pub mod PlanFiles
 pub mod Sources

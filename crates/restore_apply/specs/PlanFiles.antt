@@ -1,6 +1,7 @@
 -- What reading the files of a plan gives, and why it may fail.
 use Rattle.std.specs.Prelude.{◌≡◌, ℕ, List, [], ◌∷◌, ◌++◌, Option, None, unwrap_or, ⊤}
-use Rattle.crash_disk.specs.Fault.{Rose}
+use Rattle.ls_base.specs.Fault.{Rose}
+use Rattle.crash_disk.specs.Files.{files_after}
 use Rattle.crash_disk.specs.Told.{Told, IfTold}
 use Rattle.ltx_format.specs.declared.file.LtxFile.{LtxFile}
 use Rattle.ltx_format.specs.LtxFormat.{IsLtxFile, change_of}
@@ -40,7 +41,7 @@ ExplainsFile bytes name wanted Memory = ⊤
 -- why the file of a name could not be read
 abbrev pub ExplainsRead : Told → ℕ → ℕ → FileName → Option ℕ → RestoreFault → Type 0
 ExplainsRead told before now name wanted (Damaged other damage) =
-    (other ≡ name) × IfTold told (λ events. IsDamageUnder (bytes_under events (path_of name)) name wanted damage)
+    (other ≡ name) × IfTold told (λ events. IsDamageUnder (bytes_under (files_after events) (path_of name)) name wanted damage)
 ExplainsRead told before now name wanted (PageMissing other number) = ⊥
 ExplainsRead told before now name wanted (Store fault) = Rose before now
 ExplainsRead told before now name wanted (Target fault) = ⊥
@@ -48,7 +49,7 @@ ExplainsRead told before now name wanted Memory = ⊤
 
 -- why the files of a plan could not be read
 abbrev pub ExplainsReads : Told → ℕ → ℕ → List FileName → RestoreFault → Type 0
-ExplainsReads told before now plan (Damaged name damage) = IfTold told (λ events. IsFirstDamaged events plan name damage)
+ExplainsReads told before now plan (Damaged name damage) = IfTold told (λ events. IsFirstDamaged (files_after events) plan name damage)
 ExplainsReads told before now plan (PageMissing name number) = ⊥
 ExplainsReads told before now plan (Store fault) = Rose before now
 ExplainsReads told before now plan (Target fault) = ⊥

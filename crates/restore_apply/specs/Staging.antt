@@ -4,7 +4,7 @@ use Rattle.std.specs.List.{concat}
 use Rattle.crash_disk.specs.declared.event.Event.{Event}
 use Rattle.crash_disk.specs.declared.event.Event.TheVariants.{Created, Appended, Synced, Renamed, Removed, NamesSynced}
 use Rattle.crash_disk.specs.Files.{file_at}
-use Rattle.restore_apply.specs.Stop.{LeavesNothing, LeavesAtMost, Leaves}
+use Rattle.crash_disk.specs.Stop.{LeavesNothing, LeavesAtMost, Leaves}
 
 -- the record after these pieces were appended to the file, one after another
 abbrev pub appended : List ℕ → List (List ℕ) → List Event → List Event

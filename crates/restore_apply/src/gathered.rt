@@ -1,7 +1,7 @@
 //! Bytes gathered for a file.
 
 ghost use Rattle.std.specs.Prelude.{◌≡◌, ◌+◌, ◌≤◌, [], length, IfOk, OnOk, OnErr};
-ghost use Rattle.crash_disk.specs.Fault.{HasCause};
+ghost use Rattle.ls_base.specs.Fault.{HasCause};
 ghost use Rattle.crash_disk.specs.Told.{IfTold};
 ghost use Rattle.crash_disk.specs.Files.{IsThere};
 ghost use Rattle.restore_apply.specs.declared.gathered.TheConstants.{GATHERED_BYTES};

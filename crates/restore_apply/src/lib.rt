@@ -10,10 +10,12 @@
 
 mod applying;
 mod gathered;
+mod law;
 mod output;
 mod reading;
 mod restored;
 mod sources;
 
 pub use applying::restore;
+pub use law::{faithful_chains_make_recorded_states, plans_make_one_state};
 pub use restored::{RestoreFault, Restored};

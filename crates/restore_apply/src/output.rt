@@ -1,7 +1,7 @@
 //! Writing the output: whole under its name, or not at all.
 
 ghost use Rattle.std.specs.Prelude.{◌≡◌, ◌≢◌, ◌^◌, ◌<◌, ◌≤◌, [], length, string_bytes, IfOk, OnOk, OnErr};
-ghost use Rattle.crash_disk.specs.Fault.{HasCause};
+ghost use Rattle.ls_base.specs.Fault.{HasCause};
 ghost use Rattle.crash_disk.specs.Told.{IfTold};
 ghost use Rattle.crash_disk.specs.Files.{IsThere};
 ghost use Rattle.crash_disk.specs.GoesOn.{GoesOn};

@@ -2,11 +2,11 @@
 
 ghost use Rattle.std.specs.Prelude.{◌≡◌, ◌≤◌, length, IfOk, IfErr};
 ghost use Rattle.std.specs.List.{AllByRecursion};
+ghost use Rattle.crash_disk.specs.Files.{files_after};
 ghost use Rattle.crash_disk.specs.Told.{IfTold};
 ghost use Rattle.ltx_format.specs.LtxFormat.{change_of};
 ghost use Rattle.replica_store.specs.FileOf.{IsFileOf, IsFileUnder, AreFilesUnder};
 ghost use Rattle.restore_apply.specs.PlanFiles.{IsFormed, FitsSize, ExplainsFile, ExplainsRead, ExplainsReads};
-ghost use Rattle.restore_apply.specs.Restoring.{IsOnlyFile, IsOnlyFileUnder, AreOnlyFilesUnder};
 ghost use Rattle.restore_apply.specs.Sources.{HaveOneSize};
 
 use crate::restored::RestoreFault;
@@ -24,7 +24,6 @@ fn file_of(
     wanted: Option<PageSize>,
 ) -> Result<LtxFile, RestoreFault>
     ensures found { IfOk result (λ file. IsFileOf bytes.now name.now.min name.now.max file.header (change_of file)) }
-    ensures only { IfOk result (IsOnlyFile bytes.now) }
     ensures size { IfOk result (FitsSize wanted) }
     ensures explained { IfErr result (ExplainsFile bytes.now name.now wanted) }
 {
@@ -52,8 +51,7 @@ fn read_file<S: Disk>(
     name: &FileName,
     wanted: Option<PageSize>,
 ) -> Result<LtxFile, RestoreFault>
-    ensures found { IfOk result (λ file. IfTold (S.told store.old) (λ events. IsFileUnder events name.now file)) }
-    ensures only { IfOk result (λ file. IfTold (S.told store.old) (λ events. IsOnlyFileUnder events name.now file)) }
+    ensures found { IfOk result (λ file. IfTold (S.told store.old) (λ events. IsFileUnder (files_after events) name.now file)) }
     ensures formed { IfOk result IsFormed }
     ensures size { IfOk result (FitsSize wanted) }
     ensures explained { IfErr result (ExplainsRead (S.told store.old) (S.fault_count store.old) (S.fault_count store.new) name.now wanted) }
@@ -71,8 +69,7 @@ pub fn read_files<S: Disk>(
     store: &mut S,
     plan: &[FileName],
 ) -> Result<Vec<LtxFile>, RestoreFault>
-    ensures found { IfOk result (λ files. IfTold (S.told store.old) (λ events. AreFilesUnder events plan.now files.items)) }
-    ensures only { IfOk result (λ files. IfTold (S.told store.old) (λ events. AreOnlyFilesUnder events plan.now files.items)) }
+    ensures found { IfOk result (λ files. IfTold (S.told store.old) (λ events. AreFilesUnder (files_after events) plan.now files.items)) }
     ensures formed { IfOk result (λ files. AllByRecursion IsFormed files.items) }
     ensures one_size { IfOk result (λ files. HaveOneSize files.items) }
     ensures count { IfOk result (λ files. length files.items ≡ length plan.now) }

@@ -8,6 +8,7 @@ use crash_disk::DiskFault;
 use ls_base::Txid;
 use replica_store::{Damage, FileName, StoreError};
 use std::alloc::{AllocError, AllocFailed};
+use thiserror::Error;
 
 /// A restore that was done.
 #[derive(Clone, Copy, Debug, PartialEq, Eq)]
@@ -19,19 +20,24 @@ pub struct Restored {
 }
 
 /// Why nothing was restored.
-#[derive(Clone, Copy, Debug, PartialEq, Eq)]
+#[derive(Clone, Copy, Debug, PartialEq, Eq, Error)]
 pub enum RestoreFault {
     /// The first file of the plan that is damaged, and what is wrong with it.
+    #[error("{1}")]
     Damaged(FileName, Damage),
     /// No file of the plan is damaged; the first that doesn't fit what those before it make, and the first
     /// page that is missing there.
+    #[error("page {1} is missing")]
     PageMissing(FileName, u32),
     /// The replica's disk failed. Its count of faults has risen, or stands at its last value.
+    #[error("the replica's disk failed")]
     Store(DiskFault),
     /// The output's disk failed. Its count of faults has risen, or stands at its last value. The output is
     /// absent or whole.
+    #[error("the output's disk failed")]
     Target(DiskFault),
     /// There was no memory.
+    #[error("out of memory")]
     Memory,
 }
 

@@ -1,7 +1,9 @@
 //! Which file each page of the result comes from.
 
 ghost use Rattle.std.specs.Prelude.{◌≡◌, ◌-◌, ◌^◌, ◌<◌, length, IfOk, IfErr};
+ghost use Rattle.std.specs.List.{AllByRecursion};
 ghost use Rattle.ltx_format.specs.LtxFormat.{change_of};
+ghost use Rattle.restore_apply.specs.PlanFiles.{IsFormed};
 ghost use Rattle.restore_apply.specs.Sources.{source_after, FollowSources, MakeSources, ExplainsFollow, ExplainsSources, HaveOneSize};
 
 use crate::restored::RestoreFault;
@@ -50,6 +52,7 @@ pub fn sources_of(
     files: &[LtxFile],
     plan: &[FileName],
 ) -> Result<Vec<usize>, RestoreFault>
+    requires formed { AllByRecursion IsFormed files.now }
     requires one_size { HaveOneSize files.now }
     requires same_count { length files.now ≡ length plan.now }
     ensures found { IfOk result (λ sources. MakeSources files.now (length files.now) sources.items) }

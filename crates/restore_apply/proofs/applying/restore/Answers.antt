@@ -1,5 +1,6 @@
 use Rattle.std.proofs.Common.{ℕ, List, length, refl, sym, subst, arith}
 use Rattle.std.proofs.lemmas.Grind.{common_steps}
+use Rattle.crash_disk.specs.Files.{files_after}
 use Rattle.ltx_format.specs.declared.file.LtxFile.{LtxFile}
 use Rattle.restore_apply.specs.Restoring.{ExplainsRestore}
 use Rattle.restore_apply.specs.Sources.{MakeSources, ExplainsSources, HoldsEachPage}
@@ -20,7 +21,7 @@ returns-in_err-sources-clause-explained g c =
     (ExplainsRestore store plan c.args.name.now target target (g.S.Disk.fault_count c.args.store.now) (g.S.Disk.fault_count c.read_files.new.store) (g.T.Disk.fault_count c.args.target.now) (g.T.Disk.fault_count c.args.target.now))
     c.from_residual-in_err-sources.ensures.1
     (explains_missing store plan c.args.name.now target (g.S.Disk.fault_count c.args.store.now) (g.S.Disk.fault_count c.read_files.new.store) (g.T.Disk.fault_count c.args.target.now) (g.T.Disk.fault_count c.args.target.now)
-    files fault c.in_ok-files.ensures.found c.in_ok-files.ensures.only c.in_ok-files.ensures.one_size why)
+    files fault c.in_ok-files.ensures.found c.in_ok-files.ensures.one_size why)
 
 pub write_output-requires-clause-whole : goal.write_output-requires-clause-whole
 write_output-requires-clause-whole g c =
@@ -38,7 +39,7 @@ returns-in-Err-clause-explained g c =
       c.in-Err.ensures.cause.rose refl,
       λ events told. record {
         state = made.state;
-        makes = makes_of events c.args.plan.now files sources made (c.in_ok-files.ensures.found events told) (c.in_ok-files.ensures.only events told) c.in_ok-files.ensures.one_size;
+        makes = makes_of (files_after events) c.args.plan.now files sources made (c.in_ok-files.ensures.found events told) c.in_ok-files.ensures.one_size;
         output =
             state_maybe_written (g.T.Disk.told c.args.target.now) (g.T.Disk.told c.write_output.new.disk) c.args.name.now files c.deref-2.result.now sources c.deref-3.result.now made.state
             c.deref-2.ensures.value c.deref-3.ensures.value made.sourced c.in-Err.ensures.err;
@@ -52,7 +53,7 @@ returns-clause-ok g c =
     let made = subst (λ (fs : List LtxFile). MakeSources fs (length fs) sources) c.deref.ensures.value c.in_ok-sources.ensures.found in
     λ events told. record {
       state = made.state;
-      makes = makes_of events c.args.plan.now files sources made (c.in_ok-files.ensures.found events told) (c.in_ok-files.ensures.only events told) c.in_ok-files.ensures.one_size;
+      makes = makes_of (files_after events) c.args.plan.now files sources made (c.in_ok-files.ensures.found events told) c.in_ok-files.ensures.one_size;
       output =
           state_written (g.T.Disk.told c.args.target.now) (g.T.Disk.told c.write_output.new.disk) c.args.name.now files c.deref-2.result.now sources c.deref-3.result.now made.state
           c.deref-2.ensures.value c.deref-3.ensures.value made.sourced c.in_default.ensures.ok;

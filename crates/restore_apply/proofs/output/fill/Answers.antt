@@ -4,7 +4,7 @@ use Rattle.restore_apply.specs.Sources.{sourced_bytes}
 use Rattle.crash_disk.proofs.GoesOnLemmas.{goes_on-then, goes_on-weaker}
 use Rattle.crash_disk.specs.GoesOn.{GoesOn}
 use Rattle.restore_apply.specs.Staging.{OnlyAppends, AppendsGathered}
-use Rattle.restore_apply.proofs.StagingLemmas.{only_appends, only_appends-then, still_there, there_once_created, filled, there_once_filled, begun-only_appends}
+use Rattle.restore_apply.proofs.StagingLemmas.{only_appends, only_appends-then, still_there, there_once_created, filled, there_once_filled, begun-not_created, begun-only_appends, err_leaves}
 use Rattle.restore_apply.proofs.output.fill.Goals as goal
 
 pub put_pages-requires-clause-there : goal.put_pages-requires-clause-there
@@ -40,3 +40,13 @@ returns-clause-err g c =
     on_err_weaker c.flush.result (λ flushed. begun-only_appends (g.D.Disk.told c.args.disk.now) (g.D.Disk.told c.create.new.self) (g.D.Disk.told c.flush.new.disk) c.args.name.now c.in_ok-create.ensures.ok
     (goes_on-then (g.D.Disk.told c.create.new.self) (g.D.Disk.told c.put_pages.new.disk) (g.D.Disk.told c.flush.new.disk) _ _ (OnlyAppends c.args.name.now) c.in_ok-put_pages.ensures.ok flushed
     (λ x y z first second. only_appends-then c.args.name.now x y z (only_appends c.args.name.now _ _ _ x y first) second))) c.flush.ensures.err
+
+pub returns-in_err-create-clause-err : goal.returns-in_err-create-clause-err
+returns-in_err-create-clause-err g c =
+    err_leaves c.from_residual.result _ (begun-not_created (g.D.Disk.told c.args.disk.now) (g.D.Disk.told c.create.new.self) c.args.name.now c.in_err-create.ensures.err)
+
+pub returns-in_err-put_pages-clause-err : goal.returns-in_err-put_pages-clause-err
+returns-in_err-put_pages-clause-err g c =
+    err_leaves c.from_residual-in_err-put_pages.result _
+    (begun-only_appends (g.D.Disk.told c.args.disk.now) (g.D.Disk.told c.create.new.self) (g.D.Disk.told c.put_pages.new.disk) c.args.name.now
+    c.in_ok-create.ensures.ok c.in_err-put_pages.ensures.err)

@@ -1,7 +1,5 @@
-use Rattle.std.proofs.Common.{refl, ◌∙◌, ◌≢◌, inl, inr, arith}
+use Rattle.std.proofs.Common.{refl, ◌∙◌, ◌≢◌, inl, inr}
 use Rattle.std.specs.Prelude.{unwrap_or}
-use Rattle.ltx_format.specs.LtxFormat.{change_of}
-use Rattle.ltx_format.proofs.FileFaults.{files}
 use Rattle.restore_apply.proofs.PlanLemmas.{differ, alike, misnamed, missized}
 use Rattle.restore_apply.proofs.reading.file_of.Goals as goal
 use Rattle.restore_apply.proofs.reading.file_of.Goals.{then-ne-via-then-ne, then-ne-via-else-ne+then-ne-2}
@@ -21,9 +19,3 @@ returns-then-ne-3-clause-explained c =
       missized c.args.bytes.now c.args.name.now c.args.wanted c.in-Ok.file c.in-Ok.ensures.found
           (alike c.in-Ok.file.header.min c.args.name.now.min c.if-ne.ensures) (alike c.in-Ok.file.header.max c.args.name.now.max c.if-ne-2.ensures) differs,
     )
-
-pub returns-clause-only : goal.returns-clause-only
-returns-clause-only c = record {
-  only = λ header change is. c.in-Ok.ensures.only header change is;
-  faultless = (files c.args.bytes.now (λ i. omega (arith, c.type_inv.bytes i))).1 (c.in-Ok.file.header, change_of c.in-Ok.file, c.in-Ok.ensures.found);
-}

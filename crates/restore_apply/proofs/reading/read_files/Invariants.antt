@@ -1,16 +1,15 @@
 use Rattle.std.proofs.Common.{◌≡◌, ◌≤◌, length, take}
 use Rattle.std.specs.List.{AllByRecursion}
+use Rattle.crash_disk.specs.Files.{files_after}
 use Rattle.crash_disk.specs.Told.{IfTold}
 use Rattle.replica_store.specs.FileOf.{AreFilesUnder}
 use Rattle.restore_apply.specs.PlanFiles.{IsFormed}
-use Rattle.restore_apply.specs.Restoring.{AreOnlyFilesUnder}
 use Rattle.restore_apply.proofs.PlanLemmas.{IsWanted}
 use Rattle.restore_apply.proofs.reading.read_files.Given as goal
 
 abbrev pub invariant-loop-name : goal.invariant-loop-name
 invariant-loop-name g l = record {
-  found : IfTold (g.S.Disk.told l.fn.store) (λ events. AreFilesUnder events (take l.name-index l.plan) l.files.items);
-  only : IfTold (g.S.Disk.told l.fn.store) (λ events. AreOnlyFilesUnder events (take l.name-index l.plan) l.files.items);
+  found : IfTold (g.S.Disk.told l.fn.store) (λ events. AreFilesUnder (files_after events) (take l.name-index l.plan) l.files.items);
   formed : AllByRecursion IsFormed l.files.items;
   sized : IsWanted l.wanted l.files.items;
   count : length l.files.items ≡ l.name-index;

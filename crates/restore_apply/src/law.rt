@@ -1,0 +1,17 @@
+//! What the files of a plan make, whatever the files are.
+
+ghost use Rattle.restore_apply.specs.RestoreLaws.{FaithfulChainsMakeRecorded, OneState, ReadFilesAreSound, MadeStatesAreWhole};
+
+/// Where a replica's files tell the truth, a chain of which only the first file begins with the first transaction
+/// makes the recorded state. Does nothing: its clause holds of all files.
+pub fn faithful_chains_make_recorded_states()
+    ensures { FaithfulChainsMakeRecorded }
+{}
+
+/// A plan makes at most one state. Where it makes one, none of its files is damaged and no page is missing. Does
+/// nothing: its clauses hold of all files.
+pub fn plans_make_one_state()
+    ensures one { OneState }
+    ensures sound { ReadFilesAreSound }
+    ensures whole { MadeStatesAreWhole }
+{}
