@@ -29,7 +29,8 @@ pub record HasLastFrom (end : ℕ) (log : List ℕ) : Type 0 where
   pub from : end ≤ mark.end
 
 abbrev pub LastIsNeverEarlier : Type 0
-LastIsNeverEarlier = (log more : List ℕ) (mark : Mark) → last_mark_of log ≡ Some mark → HasLastFrom mark.end (log ++ more)
+LastIsNeverEarlier =
+    (log more : List ℕ) (mark : Mark) → last_mark_of log ≡ Some mark → HasLastFrom mark.end (log ++ more)
 
 -- A log that is cut at an offset has the marks up to it.
 abbrev pub CutKeepsMarks : Type 0
@@ -44,7 +45,8 @@ abbrev pub MarksEndWithin : Type 0
 MarksEndWithin = (log : List ℕ) (mark : Mark) → IsMark log mark → mark.end ≤ length log
 
 abbrev pub LastIsGreatest : Type 0
-LastIsGreatest = (log : List ℕ) (mark last : Mark) → IsMark log mark → last_mark_of log ≡ Some last → mark.end ≤ last.end
+LastIsGreatest =
+    (log : List ℕ) (mark last : Mark) → IsMark log mark → last_mark_of log ≡ Some last → mark.end ≤ last.end
 
 -- one end has one mark
 abbrev pub OneMarkAnEnd : Type 0

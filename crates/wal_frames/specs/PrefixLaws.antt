@@ -11,17 +11,20 @@ use Rattle.wal_frames.specs.Marks.{mark_of, marks_of, IsMark}
 -- each of the frames is valid behind those before it
 abbrev pub AreValid : List ℕ → WalHeader → List (List ℕ) → List (List ℕ) → Type 0
 AreValid front h before [] = Unit {0}
-AreValid front h before (frame ∷ frames) = (fault_behind front h before frame ≡ None) × AreValid front h (before ++ frame ∷ []) frames
+AreValid front h before (frame ∷ frames) =
+    (fault_behind front h before frame ≡ None) × AreValid front h (before ++ frame ∷ []) frames
 
 -- these are the longest list of frames at the front of all in which each is valid
 pub record IsLongest (front : List ℕ) (h : WalHeader) (all frames : List (List ℕ)) : Type 0 where
   pub rest : List (List ℕ)
   pub stand_first : all ≡ frames ++ rest
   pub are_valid : AreValid front h [] frames
-  pub longest : (others rest : List (List ℕ)) → all ≡ others ++ rest → AreValid front h [] others → length others ≤ length frames
+  pub longest : (others rest : List (List ℕ)) → all ≡ others ++ rest → AreValid front h [] others
+      → length others ≤ length frames
 
 abbrev pub ValidIsLongest : Type 0
-ValidIsLongest = (front : List ℕ) (h : WalHeader) (all : List (List ℕ)) → IsLongest front h all (valid_behind front h [] all)
+ValidIsLongest =
+    (front : List ℕ) (h : WalHeader) (all : List (List ℕ)) → IsLongest front h all (valid_behind front h [] all)
 
 -- the mark is that of one of these frames, which commits
 pub record IsMarkOf (h : WalHeader) (frames : List (List ℕ)) (mark : Mark) : Type 0 where
@@ -34,7 +37,9 @@ pub record IsMarkOf (h : WalHeader) (frames : List (List ℕ)) (mark : Mark) : T
 
 -- the marks of a log are those of its valid frames that commit
 abbrev pub MarksAreCommits : Type 0
-MarksAreCommits = (log : List ℕ) (h : WalHeader) (mark : Mark) → read_header log ≡ Ok h → IsMark log mark ↔ IsMarkOf h (valid_frames log) mark
+MarksAreCommits =
+    (log : List ℕ) (h : WalHeader) (mark : Mark) → read_header log ≡ Ok h
+    → IsMark log mark ↔ IsMarkOf h (valid_frames log) mark
 
 -- they stand in the order of their ends, and no two at one
 abbrev pub MarksRise : Type 0

@@ -51,15 +51,23 @@ pub record EndsFrame (before after : List ℕ) (number commit end : ℕ) : Type 
   pub is_commit : commit ≡ commit_size frame
   pub is_end : end ≡ length after
 
--- What `feed` did. `All`: it took the whole piece, and no frame of the valid prefix ends in it. `Frame`: it
--- took the piece up to the first such end.
+-- it took the piece, and no frame of the valid prefix ends in it
+abbrev pub TakesNoFrame : Scanned → Scanned → List ℕ → Type 0
+TakesNoFrame old new piece =
+    (log : List ℕ) → HasTaken old log → HasTaken new (log ++ piece) × (valid_frames (log ++ piece) ≡ valid_frames log)
+
+-- it took the piece, with which one more frame of the valid prefix ends
+abbrev pub TakesFrame : Scanned → Scanned → List ℕ → ℕ → ℕ → ℕ → Type 0
+TakesFrame old new piece number commit end =
+    (log : List ℕ) → HasTaken old log → HasTaken new (log ++ piece) × EndsFrame log (log ++ piece) number commit end
+
+-- What `feed` did. `All`: it took the whole piece, and no frame ends in it. `Frame`: it took the piece up to the
+-- first end of a frame.
 abbrev pub Feeds : Scanned → Scanned → List ℕ → Fed → Type 0
-Feeds old new piece All =
-    (new.taken ≡ old.taken + length piece)
-    × ((log : List ℕ) → HasTaken old log → HasTaken new (log ++ piece) × (valid_frames (log ++ piece) ≡ valid_frames log))
+Feeds old new piece All = (new.taken ≡ old.taken + length piece) × TakesNoFrame old new piece
 Feeds old new piece (Frame taken number commit end) =
     (1 ≤ taken) × (taken ≤ length piece) × (new.taken ≡ old.taken + taken)
-    × ((log : List ℕ) → HasTaken old log → HasTaken new (log ++ take taken piece) × EndsFrame log (log ++ take taken piece) number commit end)
+    × TakesFrame old new (take taken piece) number commit end
 
 -- the end that is answered is that of the valid prefix from then on
 abbrev pub AnswersEnd : Scanned → Fed → Type 0

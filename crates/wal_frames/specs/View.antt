@@ -40,7 +40,8 @@ unless_locked size number page = if number == lock_page size then replicate size
 -- that of the database file.
 abbrev pub page_at_mark : WalHeader → List ℕ → List (List ℕ) → Mark → ℕ → List ℕ
 page_at_mark h file frames mark number =
-    unless_locked h.size number (unwrap_or (frames_page number (frames_to h frames mark)) (file_page h.size file number))
+    unless_locked h.size number
+    (unwrap_or (frames_page number (frames_to h frames mark)) (file_page h.size file number))
 
 abbrev pub view_under : WalHeader → List ℕ → List (List ℕ) → Mark → State
 view_under h file frames mark =

@@ -18,15 +18,19 @@ pub record IsView (h : WalHeader) (file log : List ℕ) (mark : Mark) : Type 0 w
   pub is_state : IsState (view_at file log mark)
   pub size : (view_at file log mark).page_size ≡ Some h.size
   pub many : length (view_at file log mark).pages ≡ mark.commit
-  pub each : (p : ℕ) → 1 ≤ p → p ≤ mark.commit → page_of (view_at file log mark) p ≡ Some (page_at_mark h file (valid_frames log) mark p)
+  pub each : (p : ℕ) → 1 ≤ p → p ≤ mark.commit
+      → page_of (view_at file log mark) p ≡ Some (page_at_mark h file (valid_frames log) mark p)
   pub none : (p : ℕ) → mark.commit < p → page_of (view_at file log mark) p ≡ None
 
 abbrev pub ViewAtMark : Type 0
-ViewAtMark = (file log : List ℕ) (h : WalHeader) (mark : Mark) → read_header log ≡ Ok h → IsView h file log mark
+ViewAtMark =
+    (file log : List ℕ) (h : WalHeader) (mark : Mark) → read_header log ≡ Ok h → IsView h file log mark
 
 -- it depends on the frames up to the mark alone: two logs with the same bytes up to there have one view
 abbrev pub ViewByTheFront : Type 0
-ViewByTheFront = (file a b : List ℕ) (mark : Mark) → IsMark a mark → take mark.end a ≡ take mark.end b → view_at file a mark ≡ view_at file b mark
+ViewByTheFront =
+    (file a b : List ℕ) (mark : Mark) → IsMark a mark → take mark.end a ≡ take mark.end b
+    → view_at file a mark ≡ view_at file b mark
 
 -- the frames up to a mark are the first pieces of the log behind its header
 abbrev pub FramesToMark : Type 0
@@ -45,7 +49,8 @@ pub record IsRestView (size : ℕ) (file : List ℕ) : Type 0 where
   pub is_state : IsState (view_at_rest size file)
   pub many : length (view_at_rest size file).pages ≡ file_pages size file
   pub fits : length file ≤ file_pages size file * size
-  pub each : (p : ℕ) → 1 ≤ p → p ≤ file_pages size file → p ≢ lock_page size → page_of (view_at_rest size file) p ≡ Some (take size (drop ((p - 1) * size) (padded size file)))
+  pub each : (p : ℕ) → 1 ≤ p → p ≤ file_pages size file → p ≢ lock_page size
+      → page_of (view_at_rest size file) p ≡ Some (take size (drop ((p - 1) * size) (padded size file)))
   pub none : (p : ℕ) → file_pages size file < p → page_of (view_at_rest size file) p ≡ None
 
 abbrev pub ViewAtRest : Type 0

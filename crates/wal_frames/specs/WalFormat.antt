@@ -86,4 +86,5 @@ read_behind_magic (Some order) bytes =
 
 -- the header with which bytes begin, or its first failed test
 unfoldable pub read_header : List ℕ → Result WalHeader WalHeaderFault
-read_header bytes = if nat_lt (length bytes) 32 then Err Short else read_behind_magic (order_of (field_at bytes 0)) bytes
+read_header bytes =
+    if nat_lt (length bytes) 32 then Err Short else read_behind_magic (order_of (field_at bytes 0)) bytes

@@ -62,4 +62,5 @@ frame_front number commit = big_bytes 4 number ++ big_bytes 4 commit
 -- the bytes of a frame, where these are the sums up to and with it
 unfoldable pub frame_bytes : WalHeader → WalSum → ℕ → ℕ → List ℕ → List ℕ
 frame_bytes h sums number commit page =
-    frame_front number commit ++ big_bytes 4 h.salt1 ++ big_bytes 4 h.salt2 ++ big_bytes 4 sums.s0 ++ big_bytes 4 sums.s1 ++ page
+    frame_front number commit ++ big_bytes 4 h.salt1 ++ big_bytes 4 h.salt2
+    ++ big_bytes 4 sums.s0 ++ big_bytes 4 sums.s1 ++ page
