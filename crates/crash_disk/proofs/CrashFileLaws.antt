@@ -10,7 +10,11 @@ use Rattle.crash_disk.specs.Numbers.{number_at, numbers_at, file_of, is_number}
 use Rattle.crash_disk.proofs.NumberLaws.{on_cond}
 use Rattle.crash_disk.specs.Images.{IsImageOf, MayStandAt, IsCrashImage}
 use Rattle.crash_disk.proofs.ImageLaws.{numbers_at-now, reads_as_image}
-use Rattle.crash_disk.specs.Crash.{synced_number_at, takes_names, takes_bytes, file_left}
+use Rattle.crash_disk.specs.declared.remnant.Remnant.{Remnant}
+use Rattle.crash_disk.specs.declared.remnant.Remnant.TheVariants.{OfTheSync, AsRead, Torn, OfEarlierLength}
+use Rattle.crash_disk.specs.Remnant.{takes_names, remnant_at, bytes_left}
+use Rattle.crash_disk.specs.Crash.{synced_number_at, file_left}
+use Rattle.crash_disk.proofs.TornLaws.{torn_as_image, shorter_as_image}
 
 -- since its last sync the file had the length that it had then
 abbrev HadSyncedLength : FileState → Type 0
@@ -60,19 +64,25 @@ module _ (P : Option ℕ → Type 0) where
   numbers_at-synced (Removed name ∷ events) q p = with_more (is_name q name) None (numbers_at events q) (numbers_at-synced events q p)
   numbers_at-synced (NamesSynced ∷ events) q p = inl p
 
--- a file's bytes now or at its last sync are an image of it
-image_by : (events : List Event) (b : Bool) (number : Option ℕ) → IsImageOf events number (option_map (λ n. cond b (file_of events n).bytes (file_of events n).synced) number)
-image_by events b None = tt
-image_by events b (Some n) = on_cond (IsFileImage (file_of events n)) b (file_of events n).bytes (file_of events n).synced (reads_as_image events n) (synced_as_image events n)
+-- what is left of a file is an image of it
+left_as_image : (remnant : Remnant) (events : List Event) (n : ℕ) → IsFileImage (file_of events n) (bytes_left remnant (file_of events n))
+left_as_image OfTheSync events n = synced_as_image events n
+left_as_image AsRead events n = reads_as_image events n
+left_as_image Torn events n = torn_as_image (file_of events n) (reads_as_image events n)
+left_as_image OfEarlierLength events n = shorter_as_image (file_of events n) (reads_as_image events n)
 
-left_stands : (events : List Event) (q : List ℕ) (names bytes : Bool)
-    → MayStandAt events q (option_map (λ n. cond bytes (file_of events n).bytes (file_of events n).synced) (cond names (number_at events q) (synced_number_at events q)))
-left_stands events q true bytes = record { one = numbers_at-now _ events q (image_by events bytes (number_at events q)) }
-left_stands events q false bytes = record { one = numbers_at-synced _ events q (image_by events bytes (synced_number_at events q)) }
+image_of_left : (events : List Event) (remnant : Remnant) (number : Option ℕ) → IsImageOf events number (option_map (λ n. bytes_left remnant (file_of events n)) number)
+image_of_left events remnant None = tt
+image_of_left events remnant (Some n) = left_as_image remnant events n
+
+left_stands : (events : List Event) (q : List ℕ) (names : Bool) (remnant : Remnant)
+    → MayStandAt events q (option_map (λ n. bytes_left remnant (file_of events n)) (cond names (number_at events q) (synced_number_at events q)))
+left_stands events q true remnant = record { one = numbers_at-now _ events q (image_of_left events remnant (number_at events q)) }
+left_stands events q false remnant = record { one = numbers_at-synced _ events q (image_of_left events remnant (synced_number_at events q)) }
 
 -- what a choice leaves at a name may stand there
 pub MayStandAt-left : (choice : ℕ) (events : List Event) (q : List ℕ) → MayStandAt events q (file_left choice events q)
-MayStandAt-left choice events q = left_stands events q (takes_names choice q) (takes_bytes choice q)
+MayStandAt-left choice events q = left_stands events q (takes_names choice q) (remnant_at choice q)
 
 -- and so the files that it leaves are a crash image
 pub IsCrashImage-left : (choice : ℕ) (events : List Event) (image : Files) → ((q : List ℕ) → get image q ≡ file_left choice events q) → IsCrashImage events image

@@ -10,7 +10,8 @@ use Rattle.crash_disk.proofs.FileLaws.{is_name-same, is_name-other, file_at-begi
 use Rattle.crash_disk.specs.Numbers.{number_at}
 use Rattle.crash_disk.proofs.NumberLaws.{by_names}
 use Rattle.crash_disk.specs.Images.{ArePlaced}
-use Rattle.crash_disk.specs.Crash.{synced_number_at, takes_names, file_left, name_given, is_given, is_ever_given}
+use Rattle.crash_disk.specs.Remnant.{takes_names, remnant_at, bytes_left}
+use Rattle.crash_disk.specs.Crash.{synced_number_at, file_left, name_given, is_given, is_ever_given}
 use Rattle.crash_disk.specs.Crashed.{with_placed, TakesLeft, AreLeft}
 
 or_left : (a b : Bool) → (a || b) ≡ false → a ≡ false

@@ -6,8 +6,8 @@ use Rattle.crash_disk.specs.Files.{with_bytes_at, with_length}
 use Rattle.crash_disk.specs.FileState.{FileState, Range, IsInside, synced_file, changed_in, appended, written, resized, IsFileImage}
 
 -- the bytes agree with the old ones outside the range, and are no longer there
-record ChangesIn (range : Range) (old new : List ℕ) : Type 0 where
-  outside : (place : ℕ) → place < length new → (IsInside place range → ⊥) → (place < length old) × (get_or new place 0 ≡ get_or old place 0)
+pub record ChangesIn (range : Range) (old new : List ℕ) : Type 0 where
+  pub outside : (place : ℕ) → place < length new → (IsInside place range → ⊥) → (place < length old) × (get_or new place 0 ≡ get_or old place 0)
 
 pub IsFileImage-synced : (bytes : List ℕ) → IsFileImage (synced_file bytes) bytes
 IsFileImage-synced bytes = record { had_length = inl refl; kept = λ place _ _ _. refl }
@@ -30,7 +30,7 @@ appended_changes old more = record {
     by_place : (place : ℕ) → place < length (old ++ more) → ((length old ≤ place) × (place < length old + length more) → ⊥) → place < length old
     by_place place below free = grind (arith, length-append old more)
 
-resized_changes : (size : ℕ) (old : List ℕ) → ChangesIn (record { start = length old; end = size }) old (with_length size old)
+pub resized_changes : (size : ℕ) (old : List ℕ) → ChangesIn (record { start = length old; end = size }) old (with_length size old)
 resized_changes size old = record {
   outside = λ place below free.
       let front = take size old in
@@ -42,7 +42,7 @@ resized_changes size old = record {
     by_place : (place total : ℕ) → total ≡ min size (length old) + (size - length old) → place < total → ((length old ≤ place) × (place < size) → ⊥) → (place < length old) × (place < size) × (place < min size (length old))
     by_place place total sizes below free = (grind arith, grind arith, grind arith)
 
-written_changes : (at : ℕ) (bytes old : List ℕ) → ChangesIn (record { start = min at (length old); end = at + length bytes }) old (with_bytes_at at bytes old)
+pub written_changes : (at : ℕ) (bytes old : List ℕ) → ChangesIn (record { start = min at (length old); end = at + length bytes }) old (with_bytes_at at bytes old)
 written_changes at bytes old = record { outside = λ place below free. by_place place (subst (λ n. place < n) sizes below) free (cases_lt place at) }
   where
     longer : List ℕ

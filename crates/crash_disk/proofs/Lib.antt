@@ -5,8 +5,10 @@ pub mod FileLaws
 pub mod FileStateLaws
 pub mod FolderLemmas
 pub mod GoesOnLemmas
+pub mod ImageFacts
 pub mod ImageLaws
 pub mod ImageSteps
+pub mod InPlaceLemmas
 pub mod KeyLemmas
 pub mod Moments
 pub mod NumberLaws
@@ -20,3 +22,4 @@ pub mod ResultLemmas
 pub mod SettledLaws
 pub mod StandardFacts
 pub mod TableLemmas
+pub mod TornLaws

@@ -9,7 +9,6 @@ use Rattle.crash_disk.specs.Files.{is_name}
 use Rattle.crash_disk.specs.FileState.{FileState, synced_file, appended, written, resized}
 use Rattle.crash_disk.specs.Numbers.{number_at, file_of, is_number}
 use Rattle.crash_disk.specs.Crash.{synced_number_at}
-use Rattle.crash_disk.specs.Replay.{IsReplayed}
 
 -- a record whose last change is this one
 pub newest_last : {A : Type 0} (f : List Event → A) (events before : List Event) (newest event : Event) (x : A) → events ≡ before ++ newest ∷ [] → newest ≡ event → x ≡ f (event ∷ reverse before) → x ≡ f (reverse events)
@@ -75,46 +74,50 @@ synced-kept (Removed x) before q placed names = refl
 synced-kept NamesSynced before q placed names = absurd (names refl)
 
 -- a file after one more change: changed where its number stands at the name
-module _ (before : List Event) (number : ℕ) (b s : List ℕ) where
-  abbrev file : FileState
-  file = file_of (reverse before) number
+module _ (before : List Event) (number : ℕ) (file new : FileState) (so_far : file ≡ file_of (reverse before) number) where
+  made : (event : Event) (there : Option ℕ) (f : FileState → FileState) (test : Bool)
+      → file_of (event ∷ reverse before) number ≡ cond (is_number number there) (f (file_of (reverse before) number)) (file_of (reverse before) number)
+      → test ≡ is_number number there → new ≡ cond test (f file) file → new ≡ file_of (event ∷ reverse before) number
+  made event there f test change test-is is =
+      is ∙ ap (λ x. cond test (f x) x) so_far
+      ∙ ap (λ t. cond t (f (file_of (reverse before) number)) (file_of (reverse before) number)) test-is ∙ sym change
 
-  replayed : (e event : Event) (there : Option ℕ) (f : FileState → FileState) (test : Bool) → e ≡ event → file_of (event ∷ reverse before) number ≡ cond (is_number number there) (f file) file → test ≡ is_number number there
-      → IsReplayed b s (cond test (f file) file) → IsReplayed b s (file_of (e ∷ reverse before) number)
-  replayed e event there f test is change test-is made =
-      subst (IsReplayed b s) (ap (λ t. cond t (f file) file) test-is ∙ sym change ∙ ap (λ x. file_of (x ∷ reverse before) number) (sym is)) made
-
-  pub replayed-Created : (e : Event) (name : List ℕ) (test : Bool) → e ≡ Created name → test ≡ is_number number (number_at (reverse before) name) → IsReplayed b s (cond test (resized 0 file) file) → IsReplayed b s (file_of (e ∷ reverse before) number)
+  pub made-Created : (name : List ℕ) (test : Bool) → test ≡ is_number number (number_at (reverse before) name)
+      → new ≡ cond test (resized 0 file) file → new ≡ file_of (Created name ∷ reverse before) number
   unfolding file_of
-  replayed-Created e name test is = replayed e (Created name) (number_at (reverse before) name) (resized 0) test is refl
+  made-Created name test = made (Created name) (number_at (reverse before) name) (resized 0) test refl
 
-  pub replayed-Appended : (e : Event) (name more : List ℕ) (test : Bool) → e ≡ Appended name more → test ≡ is_number number (number_at (reverse before) name) → IsReplayed b s (cond test (appended more file) file)
-      → IsReplayed b s (file_of (e ∷ reverse before) number)
+  pub made-Appended : (name more : List ℕ) (test : Bool) → test ≡ is_number number (number_at (reverse before) name)
+      → new ≡ cond test (appended more file) file → new ≡ file_of (Appended name more ∷ reverse before) number
   unfolding file_of
-  replayed-Appended e name more test is = replayed e (Appended name more) (number_at (reverse before) name) (appended more) test is refl
+  made-Appended name more test = made (Appended name more) (number_at (reverse before) name) (appended more) test refl
 
-  pub replayed-Wrote : (e : Event) (name : List ℕ) (at : ℕ) (more : List ℕ) (test : Bool) → e ≡ Wrote name at more → test ≡ is_number number (number_at (reverse before) name) → IsReplayed b s (cond test (written at more file) file)
-      → IsReplayed b s (file_of (e ∷ reverse before) number)
+  pub made-Wrote : (name : List ℕ) (at : ℕ) (more : List ℕ) (test : Bool) → test ≡ is_number number (number_at (reverse before) name)
+      → new ≡ cond test (written at more file) file → new ≡ file_of (Wrote name at more ∷ reverse before) number
   unfolding file_of
-  replayed-Wrote e name at more test is = replayed e (Wrote name at more) (number_at (reverse before) name) (written at more) test is refl
+  made-Wrote name at more test = made (Wrote name at more) (number_at (reverse before) name) (written at more) test refl
 
-  pub replayed-Cut : (e : Event) (name : List ℕ) (size : ℕ) (test : Bool) → e ≡ Cut name size → test ≡ is_number number (number_at (reverse before) name) → IsReplayed b s (cond test (resized size file) file)
-      → IsReplayed b s (file_of (e ∷ reverse before) number)
+  pub made-Cut : (name : List ℕ) (size : ℕ) (test : Bool) → test ≡ is_number number (number_at (reverse before) name)
+      → new ≡ cond test (resized size file) file → new ≡ file_of (Cut name size ∷ reverse before) number
   unfolding file_of
-  replayed-Cut e name size test is = replayed e (Cut name size) (number_at (reverse before) name) (resized size) test is refl
+  made-Cut name size test = made (Cut name size) (number_at (reverse before) name) (resized size) test refl
 
-  pub replayed-Synced : (e : Event) (name : List ℕ) (test : Bool) → e ≡ Synced name → test ≡ is_number number (number_at (reverse before) name) → IsReplayed b s (cond test (synced_file file.bytes) file)
-      → IsReplayed b s (file_of (e ∷ reverse before) number)
+  pub made-Synced : (name : List ℕ) (test : Bool) → test ≡ is_number number (number_at (reverse before) name)
+      → new ≡ cond test (synced_file file.bytes) file → new ≡ file_of (Synced name ∷ reverse before) number
   unfolding file_of
-  replayed-Synced e name test is = replayed e (Synced name) (number_at (reverse before) name) (λ f. synced_file f.bytes) test is refl
+  made-Synced name test = made (Synced name) (number_at (reverse before) name) (λ f. synced_file f.bytes) test refl
 
-  pub replayed-Placed : (e : Event) (name bytes : List ℕ) (test : Bool) → e ≡ Placed name bytes → test ≡ eqb number (length before) → IsReplayed b s (cond test (synced_file bytes) file) → IsReplayed b s (file_of (e ∷ reverse before) number)
+  pub made-Placed : (name bytes : List ℕ) (test : Bool) → test ≡ eqb number (length before)
+      → new ≡ cond test (synced_file bytes) file → new ≡ file_of (Placed name bytes ∷ reverse before) number
   unfolding file_of
-  replayed-Placed e name bytes test is test-is made =
-      subst (IsReplayed b s) (ap (λ t. cond t (synced_file bytes) file) (test-is ∙ ap (eqb number) (sym (length-reverse before))) ∙ ap (λ x. file_of (x ∷ reverse before) number) (sym is)) made
+  made-Placed name bytes test test-is is =
+      is ∙ ap (λ x. cond test (synced_file bytes) x) so_far
+      ∙ ap (λ t. cond t (synced_file bytes) (file_of (reverse before) number)) (test-is ∙ ap (eqb number) (sym (length-reverse before)))
 
-  pub replayed-kept : (e : Event) → ((((x : List ℕ) × (y : List ℕ) × (e ≡ Renamed x y)) ⊎ (((x : List ℕ) × (e ≡ Removed x)) ⊎ (e ≡ NamesSynced)))) → IsReplayed b s file → IsReplayed b s (file_of (e ∷ reverse before) number)
+  pub made-kept : (e : Event)
+      → ((x : List ℕ) × (y : List ℕ) × (e ≡ Renamed x y)) ⊎ (((x : List ℕ) × (e ≡ Removed x)) ⊎ (e ≡ NamesSynced))
+      → new ≡ file → new ≡ file_of (e ∷ reverse before) number
   unfolding file_of
-  replayed-kept e (inl h) made = subst (λ x. IsReplayed b s (file_of (x ∷ reverse before) number)) (sym h.2) made
-  replayed-kept e (inr (inl h)) made = subst (λ x. IsReplayed b s (file_of (x ∷ reverse before) number)) (sym h.1) made
-  replayed-kept e (inr (inr h)) made = subst (λ x. IsReplayed b s (file_of (x ∷ reverse before) number)) (sym h) made
+  made-kept e (inl h) is = is ∙ so_far ∙ ap (λ x. file_of (x ∷ reverse before) number) (sym h.2)
+  made-kept e (inr (inl h)) is = is ∙ so_far ∙ ap (λ x. file_of (x ∷ reverse before) number) (sym h.1)
+  made-kept e (inr (inr h)) is = is ∙ so_far ∙ ap (λ x. file_of (x ∷ reverse before) number) (sym h)

@@ -6,8 +6,8 @@ pub mod FileState
 pub mod Numbers
 pub mod Images
 pub mod CrashLaws
+pub mod Remnant
 pub mod Crash
-pub mod Replay
 pub mod Crashed
 pub mod FileTable
 pub mod Output

@@ -4,14 +4,12 @@ ghost use Rattle.std.specs.Prelude.{◌≡◌, ◌≢◌, ◌<◌, ◌+◌, ◌^
 ghost use Rattle.std.specs.FinMap as map;
 ghost use Rattle.crash_disk.specs.Files.{changed, moved, with_bytes_at, with_length};
 
+use crate::file_bytes::{fits, set_length, write_over};
 use crate::name::NameList;
 use ls_base::{Bytes, Memory};
 use std::alloc::Global;
 use std::collections::BTreeMap;
 use std::marker::Model;
-
-/// The length in bytes that every file stays below.
-pub const LENGTH_LIMIT: usize = 1 << 63;
 
 /// Files by name, each shorter than 2^63 bytes.
 #[derive(Debug, Drop)]
@@ -100,11 +98,10 @@ impl FileTable {
         ensures ok { OnOk result (self.new ≡ changed self.old name.now (map.get self.old name.now) (with_bytes_at at bytes.now)) }
         ensures err { OnErr result (self.new ≡ self.old) }
     {
-        let Some(old) = self.get(name) else {
+        let Some(file) = self.files.get_mut(name) else {
             return Ok(());
         };
-        let new = with_bytes_at(self.alloc, old, at, bytes)?;
-        self.replace(name, new);
+        write_over(file, at, bytes)?;
         Ok(())
     }
 
@@ -113,11 +110,10 @@ impl FileTable {
         ensures ok { OnOk result (self.new ≡ changed self.old name.now (map.get self.old name.now) (with_length size)) }
         ensures err { OnErr result (self.new ≡ self.old) }
     {
-        let Some(old) = self.get(name) else {
+        let Some(file) = self.files.get_mut(name) else {
             return Ok(());
         };
-        let new = with_length(self.alloc, old, size)?;
-        self.replace(name, new);
+        set_length(file, size)?;
         Ok(())
     }
 
@@ -158,45 +154,4 @@ impl FileTable {
         }
         Ok(())
     }
-}
-
-/// Whether a file of this length stays below the limit with more bytes behind it.
-fn fits(length: usize, more: usize) -> bool
-    ensures { IsTrue result ↔ (length + more < 2 ^ 63) }
-{
-    length < LENGTH_LIMIT && more < LENGTH_LIMIT - length
-}
-
-/// The bytes cut to the length, or followed by zeros up to it. `Memory` for want of it, and for a length of
-/// 2^63 or more.
-pub fn with_length(alloc: Global, old: &[u8], size: u64) -> Result<Bytes, Memory>
-    ensures ok { IfOk result (λ new. new ≡ with_length size old.now) }
-    ensures short { OnOk result (size < 2 ^ 63) }
-{
-    let size = size as usize;
-    if !fits(size, 0) {
-        return Err(Memory);
-    }
-    let front = &old[..size.min(old.len())];
-    let zeros = vec![in alloc; 0u8; size - front.len()]?;
-    let mut new = Bytes::new(alloc);
-    new.extend(front)?;
-    new.extend(&zeros)?;
-    Ok(new)
-}
-
-/// The bytes with others written over them from the offset on. Zeros fill a gap. `Memory` for want of it,
-/// and where the others would end at 2^63 or later.
-pub fn with_bytes_at(alloc: Global, old: &[u8], at: u64, bytes: &[u8]) -> Result<Bytes, Memory>
-    ensures ok { IfOk result (λ new. new ≡ with_bytes_at at bytes.now old.now) }
-    ensures short { OnOk result (at + length bytes.now < 2 ^ 63) }
-{
-    if !fits(at as usize, bytes.len()) {
-        return Err(Memory);
-    }
-    let end = at as usize + bytes.len();
-    let mut new = with_length(alloc, old, at)?;
-    new.extend(bytes)?;
-    new.extend(&old[old.len().min(end)..])?;
-    Ok(new)
 }

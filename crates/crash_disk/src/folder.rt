@@ -9,9 +9,11 @@ ghost use Rattle.crash_disk.specs.Files.{file_at, files_after};
 ghost use Rattle.std.specs.FinMap as map;
 
 use crate::event::Event;
-use crate::file_table::{FileTable, LENGTH_LIMIT};
+use crate::file_bytes::LENGTH_LIMIT;
+use crate::file_table::FileTable;
 use crate::name::{Name, NameList};
 use crate::replay::file_left;
+use crate::replayed::copied;
 use ls_base::{Bytes, Memory};
 use std::alloc::Global;
 use std::marker::Model;
@@ -234,11 +236,4 @@ fn left_by_crash(alloc: Global, events: &[Event], choice: u64) -> Result<Folder,
         }
     }
     Ok(left)
-}
-
-/// A copy of the bytes.
-pub fn copied(alloc: Global, bytes: &[u8]) -> Result<Bytes, Memory>
-    ensures { IfOk result (λ copy. copy ≡ bytes.now) }
-{
-    Ok(Bytes::from_vec(bytes.to_vec(alloc)?))
 }

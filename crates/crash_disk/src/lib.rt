@@ -14,6 +14,7 @@ mod call_plan;
 mod disk;
 mod event;
 mod fault;
+mod file_bytes;
 mod file_table;
 mod folder;
 mod law;
@@ -21,7 +22,9 @@ mod mem_disk;
 mod mem_out;
 mod name;
 mod out;
+mod remnant;
 mod replay;
+mod replayed;
 
 pub use disk::Disk;
 pub use event::Event;

@@ -85,7 +85,8 @@ impl MemDisk {
 
     /// Leaves the files that a crash now may leave, chosen by the number, and all of them synced. No stop
     /// stands afterwards. Choice 0 takes no change of a name or of bytes that wasn't synced, choice 1 takes
-    /// all of them, choice 2 takes those of names alone, and the others mix.
+    /// all of them, choice 2 takes those of names alone. The others mix, name by name: some leave stray bytes
+    /// where writes weren't synced, and some the length before the newest change.
     ///
     /// `Memory` for want of it, and the disk is then as it was. Counts as no call.
     pub fn crash(&mut self, choice: u64) -> Result<(), Memory>
