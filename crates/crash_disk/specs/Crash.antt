@@ -1,8 +1,8 @@
 -- What `crash` of a disk in memory leaves, by its choice.
-use Rattle.std.specs.Prelude.{ℕ, Bool, false, if◌then◌else◌, ◌||◌, List, [], ◌∷◌, length, Option, Some, None, option_map}
+use Rattle.std.specs.Prelude.{◌≡◌, ℕ, Bool, false, if◌then◌else◌, ◌||◌, List, [], ◌∷◌, length, Option, Some, None, option_map}
 use Rattle.crash_disk.specs.declared.event.Event.{Event}
 use Rattle.crash_disk.specs.declared.event.Event.TheVariants.{Placed, Created, Appended, Wrote, Cut, Synced, Renamed, Removed, NamesSynced}
-use Rattle.crash_disk.specs.Files.{is_name}
+use Rattle.crash_disk.specs.Files.{file_at, is_name}
 use Rattle.crash_disk.specs.Numbers.{number_at, file_of}
 use Rattle.crash_disk.specs.Remnant.{takes_names, remnant_at, bytes_left}
 
@@ -29,6 +29,10 @@ number_left choice events name =
 abbrev pub file_left : ℕ → List Event → List ℕ → Option (List ℕ)
 file_left choice events name =
     option_map (λ n. bytes_left (remnant_at choice name) (file_of events n)) (number_left choice events name)
+
+-- after the crash each name has the file that the choice leaves there
+abbrev pub LeavesByChoice : ℕ → List Event → List Event → Type 0
+LeavesByChoice choice old new = (name : List ℕ) → file_at new name ≡ file_left choice old name
 
 -- the name under which the change puts a file
 abbrev pub name_given : Event → Option (List ℕ)

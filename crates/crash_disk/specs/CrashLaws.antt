@@ -14,12 +14,16 @@ ReadFilesAreAnImage = (events : List Event) → IsCrashImage events (files_after
 -- after a sync of each file that is there, and of the names, a crash leaves the files as they read and
 -- nothing else
 abbrev pub SyncedDiskHasOneImage : Type 0
-SyncedDiskHasOneImage = (events : List Event) (names : List (List ℕ)) (image : Files) → ((q : List ℕ) → IsSome (file_at events q) → SomeOf (λ name. name ≡ q) names)
+SyncedDiskHasOneImage =
+    (events : List Event) (names : List (List ℕ)) (image : Files)
+    → ((q : List ℕ) → IsSome (file_at events q) → SomeOf (λ name. name ≡ q) names)
     → IsCrashImage (NamesSynced ∷ (map Synced names ++ events)) image → image ≡ files_after events
 
 -- a crash leaves a disk after a crash as it is
 abbrev pub CrashedDiskHasOneImage : Type 0
-CrashedDiskHasOneImage = (events : List Event) (image : Files) → ArePlaced events → IsCrashImage events image → image ≡ files_after events
+CrashedDiskHasOneImage =
+    (events : List Event) (image : Files) → ArePlaced events → IsCrashImage events image
+    → image ≡ files_after events
 
 -- the pieces one behind the other; the last of them stands first in the list, as in a record
 abbrev pub joined : List (List ℕ) → List ℕ
@@ -38,6 +42,10 @@ put draft name pieces base = NamesSynced ∷ Renamed draft name ∷ Synced draft
 -- A put is safe. Where no crash before it left the name, a crash at any moment of it leaves under the name
 -- nothing or the whole, and a crash after it the whole.
 abbrev pub PutIsCrashSafe : Type 0
-PutIsCrashSafe = (draft name : List ℕ) (pieces : List (List ℕ)) (base : List Event) → name ≢ draft → ((image : Files) → IsCrashImage base image → get image name ≡ None) → (image : Files)
-    → (WasCrashImageSince (put draft name pieces base) (length base) image → IfSome (get image name) (λ bytes. bytes ≡ joined pieces))
+PutIsCrashSafe =
+    (draft name : List ℕ) (pieces : List (List ℕ)) (base : List Event) → name ≢ draft
+    → ((image : Files) → IsCrashImage base image → get image name ≡ None)
+    → (image : Files)
+    → (WasCrashImageSince (put draft name pieces base) (length base) image
+    → IfSome (get image name) (λ bytes. bytes ≡ joined pieces))
     × (IsCrashImage (put draft name pieces base) image → get image name ≡ Some (joined pieces))

@@ -29,15 +29,20 @@ synced_file bytes = record { bytes = bytes; synced = bytes; ranges = []; lengths
 
 -- the file with other bytes, made by a write or a growth in this range
 abbrev pub changed_in : Range → List ℕ → FileState → FileState
-changed_in range bytes file = record file { bytes = bytes; ranges = range ∷ file.ranges; lengths = length bytes ∷ file.lengths }
+changed_in range bytes file =
+    record file { bytes = bytes; ranges = range ∷ file.ranges; lengths = length bytes ∷ file.lengths }
 
 -- the file with these bytes behind its own
 abbrev pub appended : List ℕ → FileState → FileState
-appended more file = changed_in (record { start = length file.bytes; end = length file.bytes + length more }) (file.bytes ++ more) file
+appended more file =
+    let range : Range = record { start = length file.bytes; end = length file.bytes + length more } in
+    changed_in range (file.bytes ++ more) file
 
 -- the file with these bytes written from the offset on; the zeros that fill a gap are a growth
 abbrev pub written : ℕ → List ℕ → FileState → FileState
-written at bytes file = changed_in (record { start = min at (length file.bytes); end = at + length bytes }) (with_bytes_at at bytes file.bytes) file
+written at bytes file =
+    let range : Range = record { start = min at (length file.bytes); end = at + length bytes } in
+    changed_in range (with_bytes_at at bytes file.bytes) file
 
 -- the file cut to the length, or grown to it
 abbrev pub resized : ℕ → FileState → FileState
@@ -47,4 +52,5 @@ resized size file = changed_in (record { start = length file.bytes; end = size }
 -- bytes but where it was written or grown over since
 pub record IsFileImage (file : FileState) (bytes : List ℕ) : Type 0 where
   pub had_length : SomeOf (λ size. length bytes ≡ size) file.lengths
-  pub kept : (place : ℕ) → place < length bytes → place < length file.synced → (SomeOf (IsInside place) file.ranges → ⊥) → slice_index bytes place ≡ slice_index file.synced place
+  pub kept : (place : ℕ) → place < length bytes → place < length file.synced
+      → (SomeOf (IsInside place) file.ranges → ⊥) → slice_index bytes place ≡ slice_index file.synced place

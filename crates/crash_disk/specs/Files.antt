@@ -33,14 +33,18 @@ abbrev pub moved : Files → List ℕ → List ℕ → Option (List ℕ) → Fil
 moved files from to None = files
 moved files from to (Some bytes) = insert (remove files from) to bytes
 
+-- the same of the file that has the name now
+abbrev pub changed_now : Files → List ℕ → (List ℕ → List ℕ) → Files
+changed_now files name f = changed files name (get files name) f
+
 -- the files after these changes, the newest first
 unfoldable pub files_after : List Event → Files
 files_after [] = empty
 files_after (Placed name bytes ∷ events) = insert (files_after events) name bytes
 files_after (Created name ∷ events) = insert (files_after events) name []
-files_after (Appended name bytes ∷ events) = changed (files_after events) name (get (files_after events) name) (λ old. old ++ bytes)
-files_after (Wrote name at bytes ∷ events) = changed (files_after events) name (get (files_after events) name) (with_bytes_at at bytes)
-files_after (Cut name size ∷ events) = changed (files_after events) name (get (files_after events) name) (with_length size)
+files_after (Appended name bytes ∷ events) = changed_now (files_after events) name (λ old. old ++ bytes)
+files_after (Wrote name at bytes ∷ events) = changed_now (files_after events) name (with_bytes_at at bytes)
+files_after (Cut name size ∷ events) = changed_now (files_after events) name (with_length size)
 files_after (Synced name ∷ events) = files_after events
 files_after (Renamed from to ∷ events) = moved (files_after events) from to (get (files_after events) from)
 files_after (Removed name ∷ events) = remove (files_after events) name

@@ -10,12 +10,16 @@ use Rattle.crash_disk.specs.FileState.{FileState, synced_file, appended, written
 unfoldable pub number_at : List Event → List ℕ → Option ℕ
 number_at [] q = None
 number_at (Placed name bytes ∷ events) q = if is_name q name then Some (length events) else number_at events q
-number_at (Created name ∷ events) q = if is_name q name then Some (unwrap_or (number_at events name) (length events)) else number_at events q
+number_at (Created name ∷ events) q =
+    if is_name q name then Some (unwrap_or (number_at events name) (length events)) else number_at events q
 number_at (Appended name bytes ∷ events) q = number_at events q
 number_at (Wrote name at bytes ∷ events) q = number_at events q
 number_at (Cut name size ∷ events) q = number_at events q
 number_at (Synced name ∷ events) q = number_at events q
-number_at (Renamed from to ∷ events) q = if is_name q to then option_or (number_at events from) (number_at events q) else (if is_name q from then None else number_at events q)
+number_at (Renamed from to ∷ events) q =
+    if is_name q to
+    then option_or (number_at events from) (number_at events q)
+    else (if is_name q from then None else number_at events q)
 number_at (Removed name ∷ events) q = if is_name q name then None else number_at events q
 number_at (NamesSynced ∷ events) q = number_at events q
 
@@ -24,12 +28,16 @@ number_at (NamesSynced ∷ events) q = number_at events q
 unfoldable pub numbers_at : List Event → List ℕ → List (Option ℕ)
 numbers_at [] q = None ∷ []
 numbers_at (Placed name bytes ∷ events) q = if is_name q name then Some (length events) ∷ [] else numbers_at events q
-numbers_at (Created name ∷ events) q = if is_name q name then number_at (Created name ∷ events) q ∷ numbers_at events q else numbers_at events q
+numbers_at (Created name ∷ events) q =
+    if is_name q name then number_at (Created name ∷ events) q ∷ numbers_at events q else numbers_at events q
 numbers_at (Appended name bytes ∷ events) q = numbers_at events q
 numbers_at (Wrote name at bytes ∷ events) q = numbers_at events q
 numbers_at (Cut name size ∷ events) q = numbers_at events q
 numbers_at (Synced name ∷ events) q = numbers_at events q
-numbers_at (Renamed from to ∷ events) q = if is_name q to || is_name q from then number_at (Renamed from to ∷ events) q ∷ numbers_at events q else numbers_at events q
+numbers_at (Renamed from to ∷ events) q =
+    if is_name q to || is_name q from
+    then number_at (Renamed from to ∷ events) q ∷ numbers_at events q
+    else numbers_at events q
 numbers_at (Removed name ∷ events) q = if is_name q name then None ∷ numbers_at events q else numbers_at events q
 numbers_at (NamesSynced ∷ events) q = number_at events q ∷ []
 
@@ -50,7 +58,8 @@ file_of (Created name ∷ events) n = changed_at (number_at events name) (resize
 file_of (Appended name bytes ∷ events) n = changed_at (number_at events name) (appended bytes) n (file_of events n)
 file_of (Wrote name at bytes ∷ events) n = changed_at (number_at events name) (written at bytes) n (file_of events n)
 file_of (Cut name size ∷ events) n = changed_at (number_at events name) (resized size) n (file_of events n)
-file_of (Synced name ∷ events) n = changed_at (number_at events name) (λ file. synced_file file.bytes) n (file_of events n)
+file_of (Synced name ∷ events) n =
+    changed_at (number_at events name) (λ file. synced_file file.bytes) n (file_of events n)
 file_of (Renamed from to ∷ events) n = file_of events n
 file_of (Removed name ∷ events) n = file_of events n
 file_of (NamesSynced ∷ events) n = file_of events n

@@ -1,5 +1,5 @@
 -- What an object in memory counts of its calls, and which of them are to fail.
-use Rattle.std.specs.Prelude.{◌≡◌, ℕ, ◌+◌, ◌-◌, ◌^◌, min, ◌⊎◌, List, [], Contains, Option, Some, None, option_map, Result, IsErr, OnOk, OnErr, IsErrOf}
+use Rattle.std.specs.Prelude.{◌≡◌, ℕ, ◌+◌, ◌-◌, ◌^◌, min, ◌⊎◌, List, [], ◌∷◌, ◌++◌, Contains, Option, Some, None, option_map, Result, IsErr, OnOk, OnErr, IsErrOf}
 use Rattle.crash_disk.specs.declared.fault.NamesFault.{NamesFault}
 use Rattle.crash_disk.specs.declared.fault.NamesFault.TheVariants.{Disk}
 
@@ -36,19 +36,35 @@ passed plan = record plan { calls = counted plan.calls; stop = nearer plan.stop 
 abbrev pub failed : Plan → Plan
 failed plan = record plan { calls = counted plan.calls; faults = counted plan.faults; stop = nearer plan.stop }
 
+-- a call at hand failed for want of memory
+abbrev pub starved_once : Plan → Plan
+starved_once plan = record plan { faults = counted plan.faults; starved = counted plan.starved }
+
+-- one more call is to fail
+abbrev pub with_failing : ℕ → Plan → Plan
+with_failing call plan = record plan { failing = plan.failing ++ call ∷ [] }
+
 -- after a call that failed for want of memory
 abbrev pub starving : Plan → Plan
-starving plan = record plan { calls = counted plan.calls; faults = counted plan.faults; starved = counted plan.starved; stop = nearer plan.stop }
+starving plan = starved_once (passed plan)
+
+-- the call at hand wasn't to fail, and was counted
+abbrev pub Passes : Plan → Plan → Type 0
+Passes old new = (IsNextToFail old → ⊥) × (new ≡ passed old)
+
+-- the call at hand was to fail, and that was counted
+abbrev pub Fails : Plan → Plan → Type 0
+Fails old new = IsNextToFail old × (new ≡ failed old)
 
 -- the call failed because it was to, or else for want of memory, and that was counted
 abbrev pub FailedOrStarved : Plan → Plan → Type 0
-FailedOrStarved old new = (IsNextToFail old × (new ≡ failed old)) ⊎ ((IsNextToFail old → ⊥) × (new ≡ starving old))
+FailedOrStarved old new = Fails old new ⊎ ((IsNextToFail old → ⊥) × (new ≡ starving old))
 
 -- a call that takes no memory fails exactly where it was to
 pub record FailsByPlan {T E : Type 0} (old new : Plan) (result : Result T E) : Type 0 where
   pub fails : IsNextToFail old → IsErr result
   pub ok : OnOk result (new ≡ passed old)
-  pub err : OnErr result (IsNextToFail old × (new ≡ failed old))
+  pub err : OnErr result (Fails old new)
 
 -- a call fails where it was to, and else only for want of memory
 pub record FailsOrStarves {T E : Type 0} (old new : Plan) (result : Result T E) : Type 0 where
@@ -60,4 +76,4 @@ pub record FailsOrStarves {T E : Type 0} (old new : Plan) (result : Result T E) 
 pub record AnswersMemory {T : Type 0} (old new : Plan) (result : Result T NamesFault) : Type 0 where
   pub fails : IsNextToFail old → IsErrOf result (Disk (record {}))
   pub fault : IsErrOf result (Disk (record {})) → IsNextToFail old
-  pub counts : (IsNextToFail old × (new ≡ failed old)) ⊎ ((IsNextToFail old → ⊥) × (new ≡ passed old))
+  pub counts : Fails old new ⊎ Passes old new

@@ -1,7 +1,7 @@
 //! What an object in memory counts of its calls, and which of them are to fail.
 
 ghost use Rattle.std.specs.Prelude.{◌≡◌, ◌≤◌, ◌++◌, [], ◌∷◌, ◌↔◌, Some, None, IsTrue, IsFalse, OnOk, OnErr};
-ghost use Rattle.crash_disk.specs.Plan.{Plan, counted, unused, nearer, IsNextToFail, passed, failed};
+ghost use Rattle.crash_disk.specs.Plan.{Plan, counted, unused, with_failing, starved_once, nearer, IsNextToFail, passed, failed};
 
 use ls_base::Memory;
 use std::alloc::Global;
@@ -23,7 +23,13 @@ impl Model for CallPlan {
 
     ghost Value = { Plan };
 
-    ghost view = { λ p. record { calls = p.calls; faults = p.faults; starved = p.starved; failing = p.failing.items; stop = p.stop } };
+    ghost view = { λ p. record {
+      calls = p.calls;
+      faults = p.faults;
+      starved = p.starved;
+      failing = p.failing.items;
+      stop = p.stop;
+    } };
 }
 
 impl CallPlan {
@@ -42,7 +48,7 @@ impl CallPlan {
 
     /// The call of this number is to fail too.
     pub fn fail_at(&mut self, call: u64) -> Result<(), Memory>
-        ensures ok { OnOk result (self.new ≡ record self.old { failing = self.old.failing ++ call ∷ [] }) }
+        ensures ok { OnOk result (self.new ≡ with_failing call self.old) }
         ensures err { OnErr result (self.new ≡ self.old) }
     {
         self.failing.push(call)?;
@@ -92,7 +98,7 @@ impl CallPlan {
 
     /// Counts that the call failed for want of memory.
     pub fn starve(&mut self)
-        ensures counts { self.new ≡ record self.old { faults = counted self.old.faults; starved = counted self.old.starved } }
+        ensures counts { self.new ≡ starved_once self.old }
         ensures later { self.old.faults ≤ self.new.faults }
     {
         self.faults = self.faults.saturating_add(1);

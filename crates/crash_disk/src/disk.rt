@@ -62,7 +62,7 @@ pub trait Disk {
     /// Fills `into` from the offset `at` on, and answers how many bytes that gave: the length of `into`
     /// or, where less stands from there on, as many; 0 for an absent name.
     fn read_at(&mut self, name: &str, at: u64, into: &mut [u8]) -> Result<usize, DiskFault>
-        ensures value { IfOk result (λ n. IfTold (told self.old) (λ events. IsReadOf events name.now at into.old into.new n)) }
+        ensures value { IfOk result (λ n. IfTold (told self.old) (λ es. IsReadOf es name.now at into.old into.new n)) }
         ensures bound { IfOk result (λ n. n ≤ length into.old) }
         ensures unchanged { told self.new ≡ told self.old }
         ensures same_folder { folder self.new ≡ folder self.old }

@@ -2,7 +2,7 @@
 
 ghost use Rattle.std.specs.Prelude.{◌≡◌, ◌≢◌, ◌<◌, ◌+◌, ◌^◌, ◌++◌, ◌↔◌, length, Some, IsTrue, IfOk, IfSome, OnOk, OnErr, option_copied};
 ghost use Rattle.std.specs.FinMap as map;
-ghost use Rattle.crash_disk.specs.Files.{changed, moved, with_bytes_at, with_length};
+ghost use Rattle.crash_disk.specs.Files.{changed_now, moved, with_bytes_at, with_length};
 
 use crate::file_bytes::{fits, set_length, write_over};
 use crate::name::NameList;
@@ -80,7 +80,7 @@ impl FileTable {
 
     /// Puts the bytes behind those of the file, if there is one.
     pub fn append(&mut self, name: &str, bytes: &[u8]) -> Result<(), Memory>
-        ensures ok { OnOk result (self.new ≡ changed self.old name.now (map.get self.old name.now) (λ old. old ++ bytes.now)) }
+        ensures ok { OnOk result (self.new ≡ changed_now self.old name.now (λ old. old ++ bytes.now)) }
         ensures err { OnErr result (self.new ≡ self.old) }
     {
         let Some(file) = self.files.get_mut(name) else {
@@ -95,7 +95,7 @@ impl FileTable {
 
     /// Writes the bytes over those of the file from the offset on, if there is a file. Zeros fill a gap.
     pub fn write_at(&mut self, name: &str, at: u64, bytes: &[u8]) -> Result<(), Memory>
-        ensures ok { OnOk result (self.new ≡ changed self.old name.now (map.get self.old name.now) (with_bytes_at at bytes.now)) }
+        ensures ok { OnOk result (self.new ≡ changed_now self.old name.now (with_bytes_at at bytes.now)) }
         ensures err { OnErr result (self.new ≡ self.old) }
     {
         let Some(file) = self.files.get_mut(name) else {
@@ -107,7 +107,7 @@ impl FileTable {
 
     /// Cuts the file to the length in bytes, or lets it grow to it by zeros, if there is a file.
     pub fn cut(&mut self, name: &str, size: u64) -> Result<(), Memory>
-        ensures ok { OnOk result (self.new ≡ changed self.old name.now (map.get self.old name.now) (with_length size)) }
+        ensures ok { OnOk result (self.new ≡ changed_now self.old name.now (with_length size)) }
         ensures err { OnErr result (self.new ≡ self.old) }
     {
         let Some(file) = self.files.get_mut(name) else {
@@ -131,7 +131,7 @@ impl FileTable {
     /// Gives the name to other bytes, if there is a file of it. Takes no memory.
     pub fn replace(&mut self, name: &str, bytes: Bytes)
         requires short { length bytes < 2 ^ 63 }
-        ensures { self.new ≡ changed self.old name.now (map.get self.old name.now) (λ _. bytes) }
+        ensures { self.new ≡ changed_now self.old name.now (λ _. bytes) }
     {
         if let Some(file) = self.files.get_mut(name) {
             *file = bytes;

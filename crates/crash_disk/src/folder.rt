@@ -2,7 +2,7 @@
 
 ghost use Rattle.std.specs.Prelude.{◌≡◌, ◌≢◌, ◌<◌, ◌^◌, [], ◌∷◌, length, IfOk, IfSome, OnOk, OnErr, option_copied, reverse, ℕ, List};
 ghost use Rattle.crash_disk.specs.Images.{ArePlaced};
-ghost use Rattle.crash_disk.specs.Crash.{file_left};
+ghost use Rattle.crash_disk.specs.Crash.{LeavesByChoice};
 ghost use Rattle.crash_disk.specs.Crashed.{TakesLeft, AreLeft};
 ghost use Rattle.crash_disk.specs.declared.event.Event.TheVariants.{Placed, Created, Appended, Wrote, Cut, Synced, Renamed, Removed, NamesSynced};
 ghost use Rattle.crash_disk.specs.Files.{file_at, files_after};
@@ -205,7 +205,7 @@ impl Folder {
     /// The files that a crash leaves by this choice, all of them placed.
     pub fn crashed(&self, choice: u64) -> Result<Folder, Memory>
         ensures placed { IfOk result (λ left. ArePlaced left) }
-        ensures files { IfOk result (λ left. (name : List ℕ) → file_at left name ≡ file_left choice self.now name) }
+        ensures files { IfOk result (λ left. LeavesByChoice choice self.now left) }
     {
         let left = left_by_crash(self.alloc, &self.events, choice)?;
         Ok(left)

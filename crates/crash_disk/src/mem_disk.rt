@@ -7,8 +7,8 @@ ghost use Rattle.crash_disk.specs.Fault.{NamesHasCause};
 ghost use Rattle.crash_disk.specs.Told.{gains, Keeps, IfTold, GainsOrNot, GainsPrefixOrNot, GainsBytesOrNot};
 ghost use Rattle.crash_disk.specs.Files.{files_after, file_at, size_of, IsThere, IsReadOf, AreNamesOf};
 ghost use Rattle.crash_disk.specs.Images.{IsCrashImage, ArePlaced};
-ghost use Rattle.crash_disk.specs.Crash.{file_left};
-ghost use Rattle.crash_disk.specs.Plan.{unused, counted, passed, failed, IsNextToFail, FailsByPlan, FailsOrStarves, AnswersMemory};
+ghost use Rattle.crash_disk.specs.Crash.{LeavesByChoice};
+ghost use Rattle.crash_disk.specs.Plan.{unused, with_failing, starved_once, Passes, Fails, FailsByPlan, FailsOrStarves, AnswersMemory};
 ghost use Rattle.crash_disk.specs.Memory.{DiskState};
 
 use crate::call_plan::CallPlan;
@@ -69,7 +69,7 @@ impl MemDisk {
     /// Makes the call of this number fail too, counted from 1 since `new`. `Memory` for want of it, and
     /// the disk is then as it was. Counts as no call.
     pub fn fail_at(&mut self, call: u64) -> Result<(), Memory>
-        ensures ok { OnOk result (self.new ≡ record self.old { plan = record self.old.plan { failing = self.old.plan.failing ++ call ∷ [] } }) }
+        ensures ok { OnOk result (self.new ≡ record self.old { plan = with_failing call self.old.plan }) }
         ensures err { OnErr result (self.new ≡ self.old) }
     {
         self.plan.fail_at(call)?;
@@ -91,7 +91,7 @@ impl MemDisk {
     /// `Memory` for want of it, and the disk is then as it was. Counts as no call.
     pub fn crash(&mut self, choice: u64) -> Result<(), Memory>
         ensures image { OnOk result (IsCrashImage self.old.events (files_after self.new.events)) }
-        ensures left { OnOk result ((name : List ℕ) → file_at self.new.events name ≡ file_left choice self.old.events name) }
+        ensures left { OnOk result (LeavesByChoice choice self.old.events self.new.events) }
         ensures synced { OnOk result (ArePlaced self.new.events) }
         ensures same_folder { self.new.folder ≡ self.old.folder }
         ensures same_given { self.new.given ≡ self.old.given }
@@ -112,8 +112,9 @@ impl MemDisk {
 
     /// Counts the next call, and fails where it is to fail.
     fn begin(&mut self) -> Result<(), DiskFault>
-        ensures ok { OnOk result ((IsNextToFail self.old.plan → ⊥) × (self.new ≡ record self.old { plan = passed self.old.plan })) }
-        ensures err { OnErr result (IsNextToFail self.old.plan × (self.new ≡ record self.old { plan = failed self.old.plan })) }
+        ensures ok { OnOk result (Passes self.old.plan self.new.plan) }
+        ensures err { OnErr result (Fails self.old.plan self.new.plan) }
+        ensures rest { self.new ≡ record self.old { plan = self.new.plan } }
         ensures later { self.old.plan.faults ≤ self.new.plan.faults }
     {
         if self.plan.next_call_fails() {
@@ -124,7 +125,7 @@ impl MemDisk {
 
     /// Counts that the call at hand fails for want of memory.
     fn starve(&mut self) -> DiskFault
-        ensures counts { self.new ≡ record self.old { plan = record self.old.plan { faults = counted self.old.plan.faults; starved = counted self.old.plan.starved } } }
+        ensures counts { self.new ≡ record self.old { plan = starved_once self.old.plan } }
         ensures later { self.old.plan.faults ≤ self.new.plan.faults }
     {
         self.plan.starve();

@@ -2,7 +2,7 @@
 
 ghost use Rattle.std.specs.Prelude.{◌≡◌, ◌++◌, ◌≤◌, [], ◌∷◌, Some, OnOk, OnErr};
 ghost use Rattle.ls_base.specs.Fault.{HasCause};
-ghost use Rattle.crash_disk.specs.Plan.{unused, FailsOrStarves};
+ghost use Rattle.crash_disk.specs.Plan.{unused, with_failing, FailsOrStarves};
 ghost use Rattle.crash_disk.specs.Memory.{OutState};
 
 use crate::call_plan::CallPlan;
@@ -51,7 +51,7 @@ impl MemOut {
     /// Makes the `put` of this number fail too, counted from 1 since `new`. `Memory` for want of it, and
     /// the output is then as it was.
     pub fn fail_at(&mut self, call: u64) -> Result<(), Memory>
-        ensures ok { OnOk result (self.new ≡ record self.old { plan = record self.old.plan { failing = self.old.plan.failing ++ call ∷ [] } }) }
+        ensures ok { OnOk result (self.new ≡ record self.old { plan = with_failing call self.old.plan }) }
         ensures err { OnErr result (self.new ≡ self.old) }
     {
         self.plan.fail_at(call)?;

@@ -32,7 +32,11 @@ pub fn remnant_at(choice: u64, name: &str) -> Remnant
     ensures { result ≡ remnant_at choice name.now }
 {
     if choice < 3 {
-        return if choice == 1 { Remnant::AsRead } else { Remnant::OfTheSync };
+        return if choice == 1 {
+            Remnant::AsRead
+        } else {
+            Remnant::OfTheSync
+        };
     }
     match mix(choice, name) / 2 % 4 {
         0 => Remnant::OfTheSync,

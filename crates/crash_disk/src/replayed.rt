@@ -45,7 +45,12 @@ impl Model for Replayed {
 
     ghost Value = { FileState };
 
-    ghost view = { λ f. record { bytes = f.bytes; synced = f.synced; ranges = reverse f.ranges.items; lengths = reverse f.lengths.items } };
+    ghost view = { λ f. record {
+      bytes = f.bytes;
+      synced = f.synced;
+      ranges = reverse f.ranges.items;
+      lengths = reverse f.lengths.items;
+    } };
 }
 
 impl Replayed {

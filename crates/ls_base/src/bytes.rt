@@ -1,6 +1,6 @@
 //! A list of bytes.
 
-ghost use Rattle.std.specs.Prelude.{◌≡◌, [], ◌++◌, OnOk, OnErr};
+ghost use Rattle.std.specs.Prelude.{◌≡◌, ◌+◌, ◌-◌, ◌≤◌, [], ◌++◌, length, take, drop, replicate, OnOk, OnErr};
 
 use crate::memory::Memory;
 use std::alloc::Global;
@@ -54,6 +54,24 @@ impl Bytes {
     {
         self.items.extend_from_slice(bytes)?;
         Ok(())
+    }
+
+    /// Cuts the list to so many bytes, or lets it grow to them by zeros. `Memory` for want of it, and the list
+    /// is then as it was.
+    pub fn resize(&mut self, len: usize) -> Result<(), Memory>
+        ensures ok { OnOk result (self.new ≡ take len self.old ++ replicate (len - length self.old) 0) }
+        ensures err { OnErr result (self.new ≡ self.old) }
+    {
+        self.items.resize(len, 0)?;
+        Ok(())
+    }
+
+    /// Writes the bytes over those from the offset `at` on. Takes no memory.
+    pub fn overwrite(&mut self, at: usize, bytes: &[u8])
+        requires room { at + length bytes.now ≤ length self.old }
+        ensures { self.new ≡ take at self.old ++ bytes.now ++ drop (at + length bytes.now) self.old }
+    {
+        self.items[at..at + bytes.len()].copy_from_slice(bytes);
     }
 
     /// The bytes, lent.
