@@ -1,0 +1,12 @@
+//! The laws of a live database that moves.
+
+ghost use Rattle.live_gate.specs.StepLaws.{StepsStay, StepsJoin, MovesStay, MovesJoin};
+
+/// No move is a step of the writer, and two steps are one. Does nothing: its clauses hold of all live
+/// databases.
+pub fn step_laws()
+    ensures stay { StepsStay }
+    ensures join { StepsJoin }
+    ensures told_stay { MovesStay }
+    ensures told_join { MovesJoin }
+{}
