@@ -10,3 +10,7 @@ pub mod PutLemmas
 pub mod ListLemmas
 pub mod OneListLemmas
 pub mod GivenLemmas
+pub mod LogLemmas
+pub mod FaithLemmas
+pub mod CrashLemmas
+pub mod CarryLemmas

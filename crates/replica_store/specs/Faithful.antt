@@ -1,5 +1,5 @@
 -- What it means that a replica's files tell the truth about a history and a sync log.
-use Rattle.std.specs.Prelude.{◌≡◌, ℕ, ◌+◌, ◌<◌, ◌≤◌, List, length, Some, IsSome, ◌⊎◌}
+use Rattle.std.specs.Prelude.{◌≡◌, ℕ, ◌+◌, ◌<◌, ◌≤◌, List, length, take, Some, IsSome, ◌⊎◌}
 use Rattle.std.specs.List.{AllByRecursion}
 use Rattle.std.specs.FinMap.{get}
 use Rattle.crash_disk.specs.Files.{Files}
@@ -8,8 +8,9 @@ use Rattle.ls_base.specs.State.{State}
 use Rattle.ls_base.specs.History.{History, state_at}
 use Rattle.ls_base.specs.SyncLog.{SyncLog, IsSyncLog, line_of, recorded_state}
 use Rattle.ltx_format.specs.declared.header.LtxHeader.{LtxHeader}
-use Rattle.replica_store.specs.NameText.{IsName, file_path}
+use Rattle.replica_store.specs.declared.file_name.FileName.{FileName}
 use Rattle.replica_store.specs.FileOf.{IsFileOf}
+use Rattle.replica_store.specs.Listing.{path_of, IsValid, IsIn}
 
 -- A file of transactions min to max may be applied to the state of transaction s: a file from the first
 -- transaction on to nothing, and any other to each state from the one before it on.
@@ -37,9 +38,14 @@ pub record IsFaithfulFile (history : History) (log : SyncLog) (min max : ℕ) (b
 pub record IsFaithful (files : Files) (history : History) (log : SyncLog) : Type 0 where
   pub rising : IsSyncLog log
   pub placed : AllByRecursion (λ line. IsSome (state_at history line.place)) log
-  pub within : (level min max : ℕ) → IsName level min max → IsSome (get files (file_path level min max))
-      → max ≤ length log
-  pub reached : 0 < length log
-      → (level : ℕ) × (min : ℕ) × IsName level min (length log) × IsSome (get files (file_path level min (length log)))
-  pub each : (level min max : ℕ) (bytes : List ℕ) → IsName level min max
-      → get files (file_path level min max) ≡ Some bytes → IsFaithfulFile history log min max bytes
+  pub within : (name : FileName) → IsIn files name → name.max ≤ length log
+  pub reached : 0 < length log → (name : FileName) × IsIn files name × (name.max ≡ length log)
+  pub each : (name : FileName) (bytes : List ℕ) → IsValid name → get files (path_of name) ≡ Some bytes
+      → IsFaithfulFile history log name.min name.max bytes
+
+-- the files are faithful to a front of the log, of at least so many lines
+pub record IsFaithfulToFront (files : Files) (history : History) (log : SyncLog) (least : ℕ) : Type 0 where
+  pub lines : ℕ
+  pub enough : least ≤ lines
+  pub within : lines ≤ length log
+  pub faithful : IsFaithful files history (take lines log)

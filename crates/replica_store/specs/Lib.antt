@@ -8,5 +8,7 @@ pub mod Putting
 pub mod FileOf
 pub mod Applying
 pub mod Faithful
+pub mod CrashFaithful
+pub mod CarriesOn
 pub mod Dating
 pub mod Given
