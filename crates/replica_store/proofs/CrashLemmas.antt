@@ -22,7 +22,7 @@ use Rattle.replica_store.proofs.FaithLemmas.{same_bytes, same_faithful, whole_fr
 abbrev pub LeavesAsRead : List Event → Type 0
 LeavesAsRead events = (path : List ℕ) → IsFilePath path → (file : Option (List ℕ)) → MayStandAt events path file → file ≡ file_at events path
 
-both_or_none : (found read : Option (List ℕ)) → IsSome found ↔ IsSome read → ((a b : List ℕ) → found ≡ Some a → read ≡ Some b → a ≡ b) → found ≡ read
+pub both_or_none : (found read : Option (List ℕ)) → IsSome found ↔ IsSome read → ((a b : List ℕ) → found ≡ Some a → read ≡ Some b → a ≡ b) → found ≡ read
 both_or_none None None both same = refl
 both_or_none None (Some b) both same = let e : false ≡ true = both.1 refl in absurd cc
 both_or_none (Some a) None both same = let e : false ≡ true = both.0 refl in absurd cc

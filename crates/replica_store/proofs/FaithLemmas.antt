@@ -165,7 +165,7 @@ put_faithful old new history log later name bytes is longer rising placed valid 
 
 -- ---- retained transactions
 
-leads_more : (a b : FileName → Type 0) → ((name : FileName) → a name → b name) → (from : ℕ) (chain : List FileName) (t : ℕ) → LeadsBy a from chain t → LeadsBy b from chain t
+pub leads_more : (a b : FileName → Type 0) → ((name : FileName) → a name → b name) → (from : ℕ) (chain : List FileName) (t : ℕ) → LeadsBy a from chain t → LeadsBy b from chain t
 leads_more a b more from [] t leads = leads
 leads_more a b more from (name ∷ chain) t leads = (more name leads.0, leads.1, leads_more a b more name.max chain t leads.2)
 

@@ -14,3 +14,8 @@ pub mod LogLemmas
 pub mod FaithLemmas
 pub mod CrashLemmas
 pub mod CarryLemmas
+pub mod FaithLawLemmas
+pub mod PutCarryLemmas
+pub mod DropCarryLemmas
+pub mod NextFileLemmas
+pub mod GrowthLemmas

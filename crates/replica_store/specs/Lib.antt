@@ -8,7 +8,11 @@ pub mod Putting
 pub mod FileOf
 pub mod Applying
 pub mod Faithful
+pub mod FaithLaws
 pub mod CrashFaithful
 pub mod CarriesOn
+pub mod PutFiles
+pub mod Dropping
+pub mod CarryLaws
 pub mod Dating
 pub mod Given

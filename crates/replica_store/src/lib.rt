@@ -25,6 +25,7 @@ mod name_text;
 mod put;
 mod reading;
 mod settling;
+mod stop_law;
 #[cfg(test)]
 mod tests;
 
@@ -34,9 +35,13 @@ pub use fetching::get;
 pub use file_name::FileName;
 pub use file_names::FileNames;
 pub use heading::{dated, header_of};
-pub use law::files_have_one_list;
+pub use law::{files_have_one_list, replicas_can_be_faithful};
 pub use listing::list;
 pub use name_text::{NameText, write_name};
 pub use put::Put;
 pub use reading::read_name;
 pub use settling::{drop_file, settle};
+pub use stop_law::{
+    crashes_leave_settled_replicas, drops_carry_on, growth_keeps, merged_files_carry_on,
+    next_files_carry_on, replicas_begin_settled, settled_replicas_carry_on, synced_names_settle,
+};
