@@ -19,3 +19,4 @@ pub mod PutCarryLemmas
 pub mod DropCarryLemmas
 pub mod NextFileLemmas
 pub mod GrowthLemmas
+pub mod ExtendedLemmas

@@ -1,5 +1,5 @@
 -- The laws of a replica that no stop harms.
-use Rattle.std.specs.Prelude.{◌≡◌, ℕ, ◌≤◌, List, [], ◌∷◌, ◌++◌, length, take, Some}
+use Rattle.std.specs.Prelude.{◌≡◌, ℕ, ◌<◌, ◌≤◌, List, [], ◌∷◌, ◌++◌, length, take, Some}
 use Rattle.std.specs.List.{Contains}
 use Rattle.crash_disk.specs.declared.event.Event.{Event}
 use Rattle.crash_disk.specs.declared.event.Event.TheVariants.{Placed}
@@ -12,9 +12,10 @@ use Rattle.ls_base.specs.History.{History, state_at}
 use Rattle.ls_base.specs.SyncLog.{SyncLog}
 use Rattle.ltx_format.specs.declared.header.LtxHeader.{LtxHeader}
 use Rattle.replica_store.specs.declared.file_name.FileName.{FileName}
-use Rattle.replica_store.specs.CarriesOn.{CarriesOn, RetainsNew}
+use Rattle.replica_store.specs.CarriesOn.{IsLonger, IsExtendedBy, CarriesOn, RetainsNew}
 use Rattle.replica_store.specs.CrashFaithful.{IsCrashFaithful, IsSettled}
 use Rattle.replica_store.specs.Dropping.{MayDropAll, MayGo}
+use Rattle.replica_store.specs.Faithful.{IsFaithful}
 use Rattle.replica_store.specs.FaithLaws.{line_in, state_after}
 use Rattle.replica_store.specs.FileOf.{IsFileOf}
 use Rattle.replica_store.specs.Listing.{path_of, IsFilePath, IsIn}
@@ -145,6 +146,20 @@ LongerHistoryKeeps =
 abbrev pub MoreFilesRetainMore : Type 0
 MoreFilesRetainMore =
     (a b : Files) (t : ℕ) → ((name : FileName) → IsIn a name → IsIn b name) → IsRetainedIn a t → IsRetainedIn b t
+
+-- ---- the log that files tell
+
+-- files that are faithful to a longer log, with one for each new line, tell it
+abbrev pub FaithfulFilesExtend : Type 0
+FaithfulFilesExtend =
+    (files : Files) (history : History) (log later : SyncLog) → IsFaithful files history later → IsLonger log later
+    → ((t : ℕ) → length log < t → t ≤ length later → (name : FileName) × IsIn files name × (name.max ≡ t))
+    → IsExtendedBy log files later
+
+-- and tell no other
+abbrev pub OneExtension : Type 0
+OneExtension =
+    (log : SyncLog) (files : Files) (a b : SyncLog) → IsExtendedBy log files a → IsExtendedBy log files b → a ≡ b
 
 -- ---- where it begins
 

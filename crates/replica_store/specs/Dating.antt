@@ -52,14 +52,24 @@ pub record IsFirstBadHeader (files : Files) (names : List FileName) (name : File
     pub moments : HaveMoments files before
     pub damaged : IsHeaderDamage files name damage
 
+-- the header, where the disk tells its content
+abbrev pub TellsHeader : Told → FileName → LtxHeader → Type 0
+TellsHeader store name header = IfTold store (λ events. IsHeaderUnder (files_after events) name header)
+
+-- the names with their moments, where the disk tells its content
+abbrev pub TellsDated : Told → List FileName → List Dated → Type 0
+TellsDated store names dated = IfTold store (λ events. AreDated (files_after events) names dated)
+
 -- what an error of reading one header means; it is never want of memory
 abbrev pub ExplainsHeader : Told → FileName → StoreError → Type 0
-ExplainsHeader store name (Damaged other damage) = (other ≡ name) × IfTold store (λ events. IsHeaderDamage (files_after events) name damage)
+ExplainsHeader store name (Damaged other damage) =
+    (other ≡ name) × IfTold store (λ events. IsHeaderDamage (files_after events) name damage)
 ExplainsHeader store name (Store fault) = ⊤
 ExplainsHeader store name Memory = ⊥
 
 -- what an error of reading the headers of names means
 abbrev pub ExplainsDated : Told → List FileName → StoreError → Type 0
-ExplainsDated store names (Damaged name damage) = IfTold store (λ events. IsFirstBadHeader (files_after events) names name damage)
+ExplainsDated store names (Damaged name damage) =
+    IfTold store (λ events. IsFirstBadHeader (files_after events) names name damage)
 ExplainsDated store names (Store fault) = ⊤
 ExplainsDated store names Memory = ⊤

@@ -43,5 +43,6 @@ abbrev pub PieceIsFaithful : Type 0
 PieceIsFaithful =
     (history : History) (whole piece : List ℕ) (h i : LtxHeader) (c d : Change)
     → IsFileOf whole 1 1 h c → state_at history h.place ≡ Some (state_after c)
-    → IsFileOf piece 2 2 i d → IsApplicable (state_after c) d → state_at history i.place ≡ Some (apply (state_after c) d)
+    → IsFileOf piece 2 2 i d → IsApplicable (state_after c) d
+    → state_at history i.place ≡ Some (apply (state_after c) d)
     → h.moment ≤ i.moment → IsFaithful (with_piece whole piece) history (line_in h ∷ line_in i ∷ [])

@@ -2,7 +2,8 @@
 use Rattle.std.specs.Prelude.{◌≡◌, ◌↔◌, ℕ, List, [], ◌∷◌, map, unwrap_or, IsSome, ◌⊎◌}
 use Rattle.std.specs.List.{Contains, IsDistinct, All}
 use Rattle.std.specs.FinMap.{get}
-use Rattle.crash_disk.specs.Files.{Files, is_name}
+use Rattle.crash_disk.specs.Files.{Files, files_after, is_name}
+use Rattle.crash_disk.specs.Told.{Told, IfTold}
 use Rattle.replica_store.specs.declared.file_name.FileName.{FileName}
 use Rattle.replica_store.specs.NameText.{IsName, file_path}
 use Rattle.replica_store.specs.Chain.{IsListOrdered}
@@ -49,3 +50,7 @@ AreReadOf (text ∷ texts) names =
 -- the bytes under a path; an absent file has none
 abbrev pub bytes_under : Files → List ℕ → List ℕ
 bytes_under files path = unwrap_or (get files path) []
+
+-- the bytes under a name, where the disk tells its content
+abbrev pub TellsBytes : Told → FileName → List ℕ → Type 0
+TellsBytes store name bytes = IfTold store (λ events. bytes ≡ bytes_under (files_after events) (path_of name))

@@ -17,7 +17,8 @@ pub record IsName (level min max : ℕ) : Type 0 where
 
 -- `ltx/<level>/<min>-<max>.ltx`, the transactions in 16 hexadecimal digits
 unfoldable pub file_path : ℕ → ℕ → ℕ → List ℕ
-file_path level min max = codes "ltx/" ++ (48 + level) ∷ codes "/" ++ hex_digits min ++ codes "-" ++ hex_digits max ++ codes ".ltx"
+file_path level min max =
+    codes "ltx/" ++ (48 + level) ∷ codes "/" ++ hex_digits min ++ codes "-" ++ hex_digits max ++ codes ".ltx"
 
 -- the path of the file that holds the whole database as of transaction t
 abbrev pub whole_path : ℕ → List ℕ

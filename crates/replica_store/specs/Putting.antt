@@ -41,6 +41,18 @@ abbrev pub AfterPutting : List ℕ → Told → Told → (List ℕ → List Even
 AfterPutting path old new Holds =
     (begun : Told) (bytes : List ℕ) → GoesOn begun old (IsPutting path bytes) → GoesOn begun new (Holds bytes)
 
+-- Whatever was put into the file, these bytes stand behind it then.
+abbrev pub PutsMore : List ℕ → List ℕ → Told → Told → Type 0
+PutsMore path more old new = AfterPutting path old new (λ written. IsPutting path (written ++ more))
+
+-- Whatever was put into the file, nothing but the temporary file has changed then.
+abbrev pub PutsNothing : List ℕ → Told → Told → Type 0
+PutsNothing path old new = AfterPutting path old new (λ written. KeepsOthers path)
+
+-- Where nothing but the temporary file had changed since some moment, so it is then.
+abbrev pub StillKeepsOthers : List ℕ → Told → Told → Type 0
+StillKeepsOthers path old new = (begun : Told) → GoesOn begun old (KeepsOthers path) → GoesOn begun new (KeepsOthers path)
+
 -- what a crash may leave at a name: what it might have left before, or these bytes under the path
 abbrev pub KeptOrPut : List ℕ → List ℕ → List Event → List ℕ → Option (List ℕ) → Type 0
 KeptOrPut path bytes before q file = MayStandAt before q file ⊎ ((q ≡ path) × (file ≡ Some bytes))

@@ -1,9 +1,8 @@
 //! Reading a file of the replica whole.
 
 ghost use Rattle.std.specs.Prelude.{◌≡◌, length, IfOk, IfErr, OnErr};
-ghost use Rattle.crash_disk.specs.Files.{files_after};
-ghost use Rattle.crash_disk.specs.Told.{IfTold, gives};
-ghost use Rattle.replica_store.specs.Listing.{path_of, bytes_under};
+ghost use Rattle.crash_disk.specs.Told.{gives};
+ghost use Rattle.replica_store.specs.Listing.{TellsBytes};
 ghost use Rattle.replica_store.specs.StoreError.{StoreHasCause, BlamesNoFile};
 
 use crate::error::StoreError;
@@ -16,7 +15,7 @@ use std::alloc::Global;
 /// The bytes of the file of this name, in one reading; none where the file is absent. `Store` for a fault of the disk
 /// and `Memory` for want of memory; nothing else.
 pub fn get<S: Disk>(alloc: Global, store: &mut S, name: &FileName) -> Result<Bytes, StoreError>
-    ensures value { IfOk result (λ bytes. IfTold (S.told store.old) (λ events. bytes ≡ bytes_under (files_after events) (path_of name.now))) }
+    ensures value { IfOk result (TellsBytes (S.told store.old) name.now) }
     ensures blames_no_file { IfErr result BlamesNoFile }
     ensures unchanged { S.told store.new ≡ S.told store.old }
     ensures same_folder { S.folder store.new ≡ S.folder store.old }

@@ -1,10 +1,8 @@
 //! The headers of a replica's files.
 
 ghost use Rattle.std.specs.Prelude.{◌≡◌, ◌*◌, length, IfOk, IfErr};
-ghost use Rattle.crash_disk.specs.Files.{files_after};
-ghost use Rattle.crash_disk.specs.Told.{IfTold};
 ghost use Rattle.replica_store.specs.Chain.{names_of};
-ghost use Rattle.replica_store.specs.Dating.{IsHeaderUnder, AreDated, ExplainsHeader, ExplainsDated};
+ghost use Rattle.replica_store.specs.Dating.{TellsHeader, TellsDated, ExplainsHeader, ExplainsDated};
 ghost use Rattle.replica_store.specs.Given.{GaveAtMost};
 ghost use Rattle.replica_store.specs.StoreError.{StoreHasCause};
 
@@ -20,7 +18,7 @@ use std::alloc::Global;
 /// header's first fault, or with `NameDiffers` exactly where its transactions aren't those of the name; `Store`
 /// for a fault of the disk. Takes no memory, and never answers `Memory`.
 pub fn header_of<S: Disk>(store: &mut S, name: &FileName) -> Result<LtxHeader, StoreError>
-    ensures value { IfOk result (λ header. IfTold (S.told store.old) (λ events. IsHeaderUnder (files_after events) name.now header)) }
+    ensures value { IfOk result (TellsHeader (S.told store.old) name.now) }
     ensures explained { IfErr result (ExplainsHeader (S.told store.old) name.now) }
     ensures unchanged { S.told store.new ≡ S.told store.old }
     ensures same_folder { S.folder store.new ≡ S.folder store.old }
@@ -46,7 +44,7 @@ pub fn dated<S: Disk>(
     store: &mut S,
     names: &[FileName],
 ) -> Result<DatedNames, StoreError>
-    ensures value { IfOk result (λ dated. IfTold (S.told store.old) (λ events. AreDated (files_after events) names.now dated)) }
+    ensures value { IfOk result (TellsDated (S.told store.old) names.now) }
     ensures names { IfOk result (λ dated. names_of dated ≡ names.now) }
     ensures explained { IfErr result (ExplainsDated (S.told store.old) names.now) }
     ensures unchanged { S.told store.new ≡ S.told store.old }

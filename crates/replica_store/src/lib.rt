@@ -42,6 +42,7 @@ pub use put::Put;
 pub use reading::read_name;
 pub use settling::{drop_file, settle};
 pub use stop_law::{
-    crashes_leave_settled_replicas, drops_carry_on, growth_keeps, merged_files_carry_on,
-    next_files_carry_on, replicas_begin_settled, settled_replicas_carry_on, synced_names_settle,
+    crashes_leave_settled_replicas, drops_carry_on, files_tell_one_longer_log, growth_keeps,
+    merged_files_carry_on, next_files_carry_on, replicas_begin_settled, settled_replicas_carry_on,
+    synced_names_settle,
 };

@@ -2,11 +2,12 @@
 
 ghost use Rattle.std.specs.Prelude.{◌≡◌, [], ◌++◌, IfOk, OnOk, OnErr};
 ghost use Rattle.ls_base.specs.Fault.{HasCause};
-ghost use Rattle.crash_disk.specs.Told.{Told, IfTold, Keeps};
+ghost use Rattle.crash_disk.specs.Told.{IfTold, Keeps};
 ghost use Rattle.crash_disk.specs.Files.{IsThere};
 ghost use Rattle.crash_disk.specs.GoesOn.{GoesOn};
-ghost use Rattle.replica_store.specs.NameText.{file_path};
-ghost use Rattle.replica_store.specs.Putting.{draft_path, IsAbsent, IsPutting, AfterPutting, MayPut, HasPut, KeepsOthers};
+ghost use Rattle.replica_store.specs.Listing.{path_of};
+ghost use Rattle.replica_store.specs.Putting.{draft_path, IsAbsent, KeepsOthers, IsPutting, AfterPutting};
+ghost use Rattle.replica_store.specs.Putting.{PutsMore, PutsNothing, StillKeepsOthers, MayPut, HasPut};
 
 use crate::draft::DraftText;
 use crate::file_name::FileName;
@@ -37,9 +38,9 @@ impl Put {
     /// Begins the file of this name, without a byte. A temporary file that a stop left is removed first, and not
     /// emptied: it may be a file that a crash still shows under another name. Takes no memory.
     pub fn begin<S: Disk>(store: &mut S, name: &FileName) -> Result<Put, DiskFault>
-        ensures named { IfOk result (λ put. put ≡ file_path name.now.level name.now.min name.now.max) }
+        ensures named { IfOk result (λ put. put ≡ path_of name.now) }
         ensures ok { IfOk result (λ put. GoesOn (S.told store.old) (S.told store.new) (IsPutting put [])) }
-        ensures err { OnErr result (GoesOn (S.told store.old) (S.told store.new) (KeepsOthers (file_path name.now.level name.now.min name.now.max))) }
+        ensures err { OnErr result (GoesOn (S.told store.old) (S.told store.new) (KeepsOthers (path_of name.now))) }
         ensures keeps { Keeps (S.folder store.old) (S.folder store.new) (S.given store.old) (S.given store.new) }
         ensures cause { HasCause (S.fault_count store.old) (S.fault_count store.new) result }
     {
@@ -57,8 +58,8 @@ impl Put {
     pub fn append<S: Disk>(&mut self, store: &mut S, bytes: &[u8]) -> Result<(), DiskFault>
         requires there { IfTold (S.told store.old) (λ events. IsThere events (draft_path self.old)) }
         ensures same_name { self.new ≡ self.old }
-        ensures ok { OnOk result (AfterPutting self.old (S.told store.old) (S.told store.new) (λ written. IsPutting self.old (written ++ bytes.now))) }
-        ensures err { OnErr result (AfterPutting self.old (S.told store.old) (S.told store.new) (λ written. KeepsOthers self.old)) }
+        ensures ok { OnOk result (PutsMore self.old bytes.now (S.told store.old) (S.told store.new)) }
+        ensures err { OnErr result (PutsNothing self.old (S.told store.old) (S.told store.new)) }
         ensures keeps { Keeps (S.folder store.old) (S.folder store.new) (S.given store.old) (S.given store.new) }
         ensures cause { HasCause (S.fault_count store.old) (S.fault_count store.new) result }
     {
@@ -83,7 +84,7 @@ impl Put {
     /// Removes what was written of the file. Takes no memory.
     pub fn abandon<S: Disk>(self, store: &mut S) -> Result<(), DiskFault>
         ensures ok { OnOk result (IfTold (S.told store.new) (λ events. IsAbsent events (draft_path self))) }
-        ensures kept { (begun : Told) → GoesOn begun (S.told store.old) (KeepsOthers self) → GoesOn begun (S.told store.new) (KeepsOthers self) }
+        ensures kept { StillKeepsOthers self (S.told store.old) (S.told store.new) }
         ensures keeps { Keeps (S.folder store.old) (S.folder store.new) (S.given store.old) (S.given store.new) }
         ensures cause { HasCause (S.fault_count store.old) (S.fault_count store.new) result }
     {

@@ -4,7 +4,7 @@ ghost use Rattle.std.specs.Prelude.{◌≡◌, OnOk, OnErr};
 ghost use Rattle.ls_base.specs.Fault.{HasCause};
 ghost use Rattle.crash_disk.specs.GoesOn.{GoesOn};
 ghost use Rattle.crash_disk.specs.Told.{Keeps};
-ghost use Rattle.replica_store.specs.NameText.{file_path};
+ghost use Rattle.replica_store.specs.Listing.{path_of};
 ghost use Rattle.replica_store.specs.Putting.{HasSyncedNames, HasDropped, MayDrop};
 
 use crate::file_name::FileName;
@@ -24,8 +24,8 @@ pub fn settle<S: Disk>(store: &mut S) -> Result<(), DiskFault>
 /// Removes the file of this name. A crash may leave it until the names are brought to the disk. Takes no
 /// memory.
 pub fn drop_file<S: Disk>(store: &mut S, name: &FileName) -> Result<(), DiskFault>
-    ensures ok { OnOk result (GoesOn (S.told store.old) (S.told store.new) (HasDropped (file_path name.now.level name.now.min name.now.max))) }
-    ensures err { OnErr result (GoesOn (S.told store.old) (S.told store.new) (MayDrop (file_path name.now.level name.now.min name.now.max))) }
+    ensures ok { OnOk result (GoesOn (S.told store.old) (S.told store.new) (HasDropped (path_of name.now))) }
+    ensures err { OnErr result (GoesOn (S.told store.old) (S.told store.new) (MayDrop (path_of name.now))) }
     ensures keeps { Keeps (S.folder store.old) (S.folder store.new) (S.given store.old) (S.given store.new) }
     ensures cause { HasCause (S.fault_count store.old) (S.fault_count store.new) result }
 {

@@ -3,11 +3,14 @@
 //! Each function does nothing: its clauses are statements on all replicas, for the proofs of callers.
 
 ghost use Rattle.replica_store.specs.CarryLaws.{CarriesOnItself, CarriesOnThen, TemporaryFilesChangeNothing};
-ghost use Rattle.replica_store.specs.CarryLaws.{NextFileCarriesOn, NextFileSettles, MergedFileCarriesOn, MergedFileSettles};
+ghost use Rattle.replica_store.specs.CarryLaws.{NextFileCarriesOn, NextFileSettles};
+ghost use Rattle.replica_store.specs.CarryLaws.{MergedFileCarriesOn, MergedFileSettles};
 ghost use Rattle.replica_store.specs.CarryLaws.{NoneDropped, OneMoreDropped, DropsCarryOn};
 ghost use Rattle.replica_store.specs.CarryLaws.{SyncedNamesSettle, SyncedNamesAddNoImage, SyncedNamesCarryOn};
 ghost use Rattle.replica_store.specs.CarryLaws.{CrashesSettle, CrashesLoseNothingSettled};
-ghost use Rattle.replica_store.specs.CarryLaws.{LongerHistoryKeeps, MoreFilesRetainMore, EmptyIsSettled, WholeIsSettled};
+ghost use Rattle.replica_store.specs.CarryLaws.{LongerHistoryKeeps, MoreFilesRetainMore};
+ghost use Rattle.replica_store.specs.CarryLaws.{FaithfulFilesExtend, OneExtension};
+ghost use Rattle.replica_store.specs.CarryLaws.{EmptyIsSettled, WholeIsSettled};
 
 /// A settled replica carries on while nothing is done, or nothing but a temporary file changes, and one step after
 /// another is a step.
@@ -53,6 +56,12 @@ pub fn crashes_leave_settled_replicas()
 pub fn growth_keeps()
     ensures history { LongerHistoryKeeps }
     ensures files { MoreFilesRetainMore }
+{}
+
+/// Files that are faithful to a longer log, with one for each new line, tell that log and no other.
+pub fn files_tell_one_longer_log()
+    ensures tell { FaithfulFilesExtend }
+    ensures one { OneExtension }
 {}
 
 /// A disk on which nothing was done is settled for the empty log, and one with a single file of the whole database for
