@@ -5,3 +5,4 @@ pub mod Coincidence
 pub mod Cause
 pub mod LiveCalls
 pub mod StepLaws
+pub mod Still

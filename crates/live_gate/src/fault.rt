@@ -3,6 +3,7 @@
 ghost use Rattle.std.specs.Prelude.{◌≡◌};
 ghost use Rattle.live_gate.specs.declared.fault.PassFault.TheVariants.{Live, Memory};
 
+use ls_base::Memory as NoMemory;
 use std::alloc::{AllocError, AllocFailed};
 use thiserror::Error;
 
@@ -27,6 +28,14 @@ impl From<LiveFault> for PassFault {
 
     fn from(fault: LiveFault) -> PassFault {
         PassFault::Live(fault)
+    }
+}
+
+impl From<NoMemory> for PassFault {
+    ghost from_gives = { λ _ e. e ≡ Memory };
+
+    fn from(_: NoMemory) -> PassFault {
+        PassFault::Memory
     }
 }
 

@@ -5,8 +5,13 @@ mod answer;
 mod fault;
 mod law;
 mod live;
+mod piece;
+mod still_live;
+#[cfg(test)]
+mod tests;
 
 pub use answer::{Attached, Pass};
 pub use fault::{LiveFault, PassFault};
 pub use law::step_laws;
 pub use live::Live;
+pub use still_live::StillLive;
