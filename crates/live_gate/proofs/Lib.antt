@@ -1,3 +1,6 @@
 pub mod StepLemmas
 pub mod PieceLemmas
 pub mod StillLemmas
+pub mod CommitLemmas
+pub mod StillLegalLemmas
+pub mod Theorems

@@ -44,7 +44,7 @@ no_twins h j k a b past at_j at_k same = absurd (omega (arith, past, slice_get_w
 
 module _ (db wal : List ℕ) where
   pub twins_stay : (held now : Option ℕ) → CountsTwins (still_database db wal held) (still_database db wal now)
-  twins_stay held now = record { rose = inr (no_twins (still_history db wal)); calm = λ _. refl }
+  twins_stay held now = record { rose = inr (no_twins (still_history db (committed_part wal))); calm = λ _. refl }
 
   pub call_stays : {T E : Type 0} (result : Result T E) (held : Option ℕ) → IsCall result (still_database db wal held) (still_database db wal held)
   call_stays result held = record { step = step_itself (still_database db wal held); twins = twins_stay held held; awake = λ _. refl }

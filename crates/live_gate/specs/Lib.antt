@@ -6,3 +6,4 @@ pub mod Cause
 pub mod LiveCalls
 pub mod StepLaws
 pub mod Still
+pub mod LegalLaws

@@ -30,7 +30,7 @@ pub record StillState : Type 0 where
 
 -- the page size of a log's header; 512 where that isn't accepted
 abbrev pub log_page_size : List ℕ → ℕ
-log_page_size wal = if_accepted (read_header wal) (λ h. h.size) 512
+log_page_size log = if_accepted (read_header log) (λ h. h.size) 512
 
 -- the page size that the header of a database file says; 512 where that is none
 abbrev pub file_page_size : List ℕ → ℕ
@@ -38,24 +38,24 @@ file_page_size db = let size = page_size_of (page_size_field (take 100 db)) in i
 
 -- the entry of a mark is the view there
 abbrev pub still_entry : List ℕ → List ℕ → Mark → Entry
-still_entry db wal mark = record { size = log_page_size wal; place = place_of mark; pages = (view_at db wal mark).pages }
+still_entry db log mark = record { size = log_page_size log; place = place_of mark; pages = (view_at db log mark).pages }
 
 -- the entry of the database file alone
 abbrev pub still_rest : List ℕ → Entry
 still_rest db = record { size = file_page_size db; place = rest_place (file_page_size db) db; pages = (view_at_rest (file_page_size db) db).pages }
 
--- one entry a mark, and where there is none the one at rest
+-- The history of a database with this log: one entry a mark, and where there is none the one at rest
 abbrev pub history_of_marks : List ℕ → List ℕ → List Mark → History
-history_of_marks db wal [] = still_rest db ∷ []
-history_of_marks db wal (mark ∷ marks) = map (still_entry db wal) (mark ∷ marks)
+history_of_marks db log [] = still_rest db ∷ []
+history_of_marks db log (mark ∷ marks) = map (still_entry db log) (mark ∷ marks)
 
 unfoldable pub still_history : List ℕ → List ℕ → History
-still_history db wal = history_of_marks db wal (marks_of wal)
+still_history db log = history_of_marks db log (marks_of log)
 
 -- Nothing is copied, and it refuses each pass.
 abbrev pub still_database : List ℕ → List ℕ → Option ℕ → Database
 still_database db wal held = record {
-  history = still_history db wal;
+  history = still_history db (committed_part wal);
   committed = committed_part wal;
   file = db;
   copied = 0;

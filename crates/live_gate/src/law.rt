@@ -1,5 +1,6 @@
 //! The laws of a live database that moves.
 
+ghost use Rattle.live_gate.specs.LegalLaws.{MarksAreRecorded, StillIsLegal};
 ghost use Rattle.live_gate.specs.StepLaws.{StepsStay, StepsJoin, MovesStay, MovesJoin};
 
 /// No move is a step of the writer, and two steps are one. Does nothing: its clauses hold of all live
@@ -9,4 +10,11 @@ pub fn step_laws()
     ensures join { StepsJoin }
     ensures told_stay { MovesStay }
     ensures told_join { MovesJoin }
+{}
+
+/// The marks of a log are the places of the last entries, and a database that never moves is legal,
+/// whatever its two files hold. Does nothing: its clauses hold of all live databases.
+pub fn legal_laws()
+    ensures marks { MarksAreRecorded }
+    ensures still { StillIsLegal }
 {}

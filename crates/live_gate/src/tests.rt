@@ -2,18 +2,14 @@ use super::*;
 use ls_base::{PageSize, Place};
 use std::test::Fail;
 
-/// The bytes that reads of four give from the offset on, up to the first that gives none.
-fn in_fours<L: Live>(live: &mut L, at: u64) -> Result<[u8; 12], LiveFault> {
-    let mut all = [b'.'; 12];
-    let mut filled = 0usize;
+/// How many bytes three reads of up to four give from the offset on, and what then stands in the buffer.
+fn in_fours<L: Live>(live: &mut L, at: u64) -> Result<([usize; 3], [u8; 4]), LiveFault> {
+    let mut four = *b"....";
     live.aim(at)?;
-    for _ in 0..3 {
-        let mut four = [0; 4];
-        let count = live.read(&mut four)?.min(12 - filled);
-        all[filled..filled + count].copy_from_slice(&four[..count]);
-        filled += count;
-    }
-    Ok(all)
+    let first = live.read(&mut four)?;
+    let second = live.read(&mut four)?;
+    let third = live.read(&mut four)?;
+    Ok(([first, second, third], four))
 }
 
 #[test]
@@ -27,14 +23,14 @@ fn a_still_database_gives_its_bytes(rt: HostRuntime) -> Result<(), Fail> {
     assert_eq!(rt; head[99], 7);
     assert_eq!(rt; live.db_size()?, 700);
     assert_eq!(rt; live.wal_size()?, 10);
-    for (at, bytes) in [
-        (0, b"0123456789.."),
-        (4, b"456789......"),
-        (9, b"9..........."),
-        (10, b"............"),
-        (u64::MAX, b"............"),
+    for (at, counts, left) in [
+        (0, [4, 4, 2], b"8967"),
+        (4, [4, 2, 0], b"8967"),
+        (9, [1, 0, 0], b"9..."),
+        (10, [0, 0, 0], b"...."),
+        (u64::MAX, [0, 0, 0], b"...."),
     ] {
-        assert_eq!(rt; in_fours(&mut live, at)?, *bytes, "from {at}");
+        assert_eq!(rt; in_fours(&mut live, at)?, (counts, *left), "from {at}");
     }
     live.leave()?;
     assert_eq!(rt; live.faults(), 0);
