@@ -56,7 +56,7 @@ commits_recorded history committed file copied has = record {
       ∙ ap (map place_of) (sym (marks_are committed has.h has.accepted));
 }
 
-no_log : read_header [] ≡ Err Short
+pub no_log : read_header [] ≡ Err Short
 unfolding read_header
 no_log = refl
 

@@ -4,3 +4,4 @@ pub mod StillLemmas
 pub mod CommitLemmas
 pub mod StillLegalLemmas
 pub mod Theorems
+pub mod MoveLemmas

@@ -7,3 +7,4 @@ pub mod LiveCalls
 pub mod StepLaws
 pub mod Still
 pub mod LegalLaws
+pub mod Moves

@@ -1,6 +1,7 @@
 //! The laws of a live database that moves.
 
 ghost use Rattle.live_gate.specs.LegalLaws.{MarksAreRecorded, StillIsLegal};
+ghost use Rattle.live_gate.specs.Moves.{CommitsAreSteps, RestartsAreSteps, PassesKeepLegal};
 ghost use Rattle.live_gate.specs.StepLaws.{StepsStay, StepsJoin, MovesStay, MovesJoin};
 
 /// No move is a step of the writer, and two steps are one. Does nothing: its clauses hold of all live
@@ -17,4 +18,13 @@ pub fn step_laws()
 pub fn legal_laws()
     ensures marks { MarksAreRecorded }
     ensures still { StillIsLegal }
+{}
+
+/// Each move is a step of the writer: a commit more, also while the gate is held; a restart or a cut, by
+/// which the log ceases to have a commit. A pass keeps a legal database legal. Does nothing: its clauses
+/// hold of all live databases.
+pub fn move_laws()
+    ensures commits { CommitsAreSteps }
+    ensures restarts { RestartsAreSteps }
+    ensures passes { PassesKeepLegal }
 {}

@@ -12,6 +12,6 @@ mod tests;
 
 pub use answer::{Attached, Pass};
 pub use fault::{LiveFault, PassFault};
-pub use law::{legal_laws, step_laws};
+pub use law::{legal_laws, move_laws, step_laws};
 pub use live::Live;
 pub use still_live::StillLive;
