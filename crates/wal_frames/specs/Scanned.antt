@@ -39,6 +39,18 @@ pub record HasTaken (s : Scanned) (log : List ℕ) : Type 0 where
   pub is_last : s.last ≡ last_mark_of log
   pub is_stopped : s.stopped ≡ stop_under s.head log
 
+-- what a scan of a log with this header keeps at a mark
+abbrev pub scanned_to : WalHeader → Mark → Scanned
+scanned_to h mark = record {
+  head = h;
+  taken = mark.end - 32;
+  end = mark.end;
+  sums = record { s0 = mark.s0; s1 = mark.s1 };
+  held = [];
+  last = Some mark;
+  stopped = None;
+}
+
 -- the fault of the first whole frame behind a log's valid prefix
 abbrev pub stop_of : List ℕ → Option NotValid
 stop_of log = if_accepted (read_header log) (λ h. stop_under h log) None

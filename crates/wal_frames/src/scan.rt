@@ -4,7 +4,7 @@ ghost use Rattle.std.specs.Prelude.{◌≡◌, ℕ, ◌+◌, ◌-◌, ◌<◌, �
 ghost use Rattle.wal_frames.specs.WalFormat.{read_header};
 ghost use Rattle.wal_frames.specs.WalFrame as format;
 ghost use Rattle.wal_frames.specs.Marks.{mark_with, IsMark, last_mark_of};
-ghost use Rattle.wal_frames.specs.Scanned.{HasTaken, Feeds, AnswersEnd, stop_of};
+ghost use Rattle.wal_frames.specs.Scanned.{HasTaken, Feeds, AnswersEnd, scanned_to, stop_of};
 
 use crate::fault::NotValid;
 use crate::fed::Fed;
@@ -112,8 +112,7 @@ impl Scan {
     /// Goes back to a mark of the valid prefix: the bytes taken are then those before its end. Takes no memory.
     pub fn back(&mut self, to: &Mark)
         ensures value { (log : List ℕ) → HasTaken self.old log → IsMark log to.now → HasTaken self.new (take to.now.end log) }
-        ensures taken { self.new.taken ≡ to.now.end - 32 }
-        ensures head { self.new.head ≡ self.old.head }
+        ensures exact { self.new ≡ scanned_to self.old.head to.now }
     {
         self.part.clear();
         self.taken = to.end.saturating_sub(HEADER_BYTES as u64);
