@@ -8,11 +8,11 @@ use Rattle.crash_disk.specs.FileState.{FileState, Range}
 
 -- the choices from 3 on mix: this number's last three bits say what is taken at a name
 abbrev pub mix : ℕ → List ℕ → ℕ
-mix choice name = choice % 4 + (choice / 4 % 4 + 1) * (sum name % 4)
+mix choice name = choice % 8 + (choice / 8 % 8 + 1) * (sum name % 8)
 
 -- whether the changes of the name since its sync are taken: not at choice 0, and at choices 1 and 2
 abbrev pub takes_names : ℕ → List ℕ → Bool
-takes_names choice name = if nat_lt choice 3 then nat_lt 0 choice else mix choice name % 2 == 1
+takes_names choice name = if nat_lt choice 3 then nat_lt 0 choice else mix choice name / 4 % 2 == 1
 
 -- one of the four, by number
 abbrev pub mixed : ℕ → Remnant
@@ -23,7 +23,7 @@ abbrev pub remnant_at : ℕ → List ℕ → Remnant
 remnant_at choice name =
     if nat_lt choice 3
     then (if choice == 1 then AsRead else OfTheSync)
-    else mixed (mix choice name / 2 % 4)
+    else mixed (mix choice name % 4)
 
 -- the bytes with stray ones inside the range
 abbrev pub scribbled : Range → List ℕ → List ℕ

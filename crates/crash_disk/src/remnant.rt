@@ -23,7 +23,7 @@ pub fn takes_names(choice: u64, name: &str) -> bool
     if choice < 3 {
         choice > 0
     } else {
-        mix(choice, name) % 2 == 1
+        mix(choice, name) / 4 % 2 == 1
     }
 }
 
@@ -38,7 +38,7 @@ pub fn remnant_at(choice: u64, name: &str) -> Remnant
             Remnant::OfTheSync
         };
     }
-    match mix(choice, name) / 2 % 4 {
+    match mix(choice, name) % 4 {
         0 => Remnant::OfTheSync,
         1 => Remnant::AsRead,
         2 => Remnant::Torn,
@@ -50,16 +50,16 @@ pub fn remnant_at(choice: u64, name: &str) -> Remnant
 fn mix(choice: u64, name: &str) -> u64
     ensures { result ≡ mix choice name.now }
 {
-    choice % 4 + (choice / 4 % 4 + 1) * last_bits(name.as_bytes())
+    choice % 8 + (choice / 8 % 8 + 1) * last_bits(name.as_bytes())
 }
 
-/// The sum of the bytes, its last two bits.
+/// The sum of the bytes, its last three bits.
 fn last_bits(bytes: &[u8]) -> u64
-    ensures { result ≡ sum bytes.now % 4 }
+    ensures { result ≡ sum bytes.now % 8 }
 {
     let mut bits = 0;
     for byte in bytes {
-        bits = (bits + *byte as u64) % 4;
+        bits = (bits + *byte as u64) % 8;
     }
     bits
 }

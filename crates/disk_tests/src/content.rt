@@ -11,14 +11,30 @@ pub fn reads(disk: &mut MemDisk, name: &str, wanted: Option<&str>) -> Result<boo
     Ok(size.is_some() == wanted.is_some() && &into[..count] == text.as_bytes())
 }
 
-/// Whether the name has one of these.
+/// Whether the bytes are those of the pattern, in which '?' stands for any byte.
+fn fits(bytes: &[u8], pattern: &[u8]) -> bool {
+    if bytes.len() != pattern.len() {
+        return false;
+    }
+    for i in 0..bytes.len() {
+        if pattern[i] != b'?' && pattern[i] != bytes[i] {
+            return false;
+        }
+    }
+    true
+}
+
+/// Whether the name has one of these, in which '?' stands for any byte.
 pub fn reads_any(
     disk: &mut MemDisk,
     name: &str,
     allowed: &[Option<&str>],
 ) -> Result<bool, DiskFault> {
+    let there = disk.size(name)?.is_some();
+    let mut into = [0; 9];
+    let count = disk.read_at(name, 0, &mut into)?;
     for wanted in allowed {
-        if reads(disk, name, *wanted)? {
+        if there == wanted.is_some() && fits(&into[..count], wanted.unwrap_or("").as_bytes()) {
             return Ok(true);
         }
     }

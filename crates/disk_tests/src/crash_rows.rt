@@ -2,7 +2,7 @@
 //!
 //! Each list begins with a synced file "a" that holds "old". Choice 0 takes no change that wasn't synced,
 //! choice 1 takes all, choice 2 takes those of names alone. The others take some, name by name, so that each
-//! leaves one of a few.
+//! leaves one of a few; there a '?' stands for any byte.
 
 use crate::step::Change::{Append, Cut, RenameTo, Sync, WriteAt};
 use crate::step::Step::{self, Create, On, Remove, SyncNames};
@@ -143,7 +143,7 @@ pub const ROWS: [Row; 32] = [
         at_none: None,
         at_all: Some("new"),
         at_names: Some(""),
-        at_others: &[None, Some(""), Some("new")],
+        at_others: &[None, Some(""), Some("???")],
     },
     Row {
         steps: &NEW_SYNCED,
@@ -159,7 +159,7 @@ pub const ROWS: [Row; 32] = [
         at_none: Some(""),
         at_all: Some("new"),
         at_names: Some(""),
-        at_others: &[Some(""), Some("new")],
+        at_others: &[Some(""), Some("???")],
     },
     Row {
         steps: &NEW_WHOLE,
@@ -175,7 +175,7 @@ pub const ROWS: [Row; 32] = [
         at_none: Some("old"),
         at_all: Some("older"),
         at_names: Some("old"),
-        at_others: &[Some("old"), Some("older")],
+        at_others: &[Some("old"), Some("old??")],
     },
     Row {
         steps: &APPENDED_NAMED,
@@ -183,7 +183,7 @@ pub const ROWS: [Row; 32] = [
         at_none: Some("old"),
         at_all: Some("older"),
         at_names: Some("old"),
-        at_others: &[Some("old"), Some("older")],
+        at_others: &[Some("old"), Some("old??")],
     },
     Row {
         steps: &WRITTEN_INSIDE,
@@ -191,7 +191,7 @@ pub const ROWS: [Row; 32] = [
         at_none: Some("old"),
         at_all: Some("oxd"),
         at_names: Some("old"),
-        at_others: &[Some("old"), Some("oxd")],
+        at_others: &[Some("o?d")],
     },
     Row {
         steps: &WRITTEN_PAST,
@@ -199,7 +199,7 @@ pub const ROWS: [Row; 32] = [
         at_none: Some("old"),
         at_all: Some("old\0\0x"),
         at_names: Some("old"),
-        at_others: &[Some("old"), Some("old\0\0x")],
+        at_others: &[Some("old"), Some("old???")],
     },
     Row {
         steps: &WRITTEN_SYNCED,
@@ -207,7 +207,7 @@ pub const ROWS: [Row; 32] = [
         at_none: Some("oxd"),
         at_all: Some("oxy"),
         at_names: Some("oxd"),
-        at_others: &[Some("oxd"), Some("oxy")],
+        at_others: &[Some("ox?")],
     },
     Row {
         steps: &CUT_SHORT,
@@ -223,7 +223,7 @@ pub const ROWS: [Row; 32] = [
         at_none: Some("old"),
         at_all: Some("old\0\0"),
         at_names: Some("old"),
-        at_others: &[Some("old"), Some("old\0\0")],
+        at_others: &[Some("old"), Some("old??")],
     },
     Row {
         steps: &REGROWN,
@@ -231,7 +231,7 @@ pub const ROWS: [Row; 32] = [
         at_none: Some("old"),
         at_all: Some("oxyz"),
         at_names: Some("old"),
-        at_others: &[Some("old"), Some("oxyz")],
+        at_others: &[Some("o"), Some("o??"), Some("o???")],
     },
     Row {
         steps: &CUT_SYNCED,
@@ -279,7 +279,7 @@ pub const ROWS: [Row; 32] = [
         at_none: Some("old"),
         at_all: Some("new"),
         at_names: Some(""),
-        at_others: &[Some("old"), Some("new"), Some("")],
+        at_others: &[Some("old"), None, Some(""), Some("???")],
     },
     Row {
         steps: &REPLACED_SYNCED,
@@ -287,7 +287,7 @@ pub const ROWS: [Row; 32] = [
         at_none: Some("old"),
         at_all: Some("new"),
         at_names: Some("new"),
-        at_others: &[Some("old"), Some("new")],
+        at_others: &[Some("old"), None, Some("new")],
     },
     Row {
         steps: &RENAMED,
@@ -311,7 +311,7 @@ pub const ROWS: [Row; 32] = [
         at_none: Some("old"),
         at_all: None,
         at_names: None,
-        at_others: &[Some("old"), Some("older"), None],
+        at_others: &[Some("old"), Some("old??"), None],
     },
     Row {
         steps: &RENAMED_WRITTEN,
@@ -319,7 +319,7 @@ pub const ROWS: [Row; 32] = [
         at_none: None,
         at_all: Some("older"),
         at_names: Some("old"),
-        at_others: &[None, Some("older"), Some("old")],
+        at_others: &[None, Some("old"), Some("old??")],
     },
     Row {
         steps: &RENAMED_NAMED,
@@ -335,7 +335,7 @@ pub const ROWS: [Row; 32] = [
         at_none: Some("old"),
         at_all: Some("older"),
         at_names: Some("old"),
-        at_others: &[Some("old"), Some("older")],
+        at_others: &[Some("old"), Some("old??")],
     },
     Row {
         steps: &TORN_PUT,
@@ -343,7 +343,7 @@ pub const ROWS: [Row; 32] = [
         at_none: Some("old"),
         at_all: Some("new"),
         at_names: Some(""),
-        at_others: &[Some("old"), Some("new"), Some("")],
+        at_others: &[Some("old"), Some(""), Some("???")],
     },
     Row {
         steps: &PUT,

@@ -53,6 +53,31 @@ fn a_crash_leaves_what_its_choice_takes(rt: HostRuntime) -> Result<(), Fail> {
     Ok(())
 }
 
+/// The bytes that a crash by the choice leaves of a synced file to which two were appended, and then two more.
+fn left_of_appended(alloc: Global, choice: u64, into: &mut [u8]) -> Result<usize, Fail> {
+    let mut disk = MemDisk::new(alloc);
+    disk.put_file("a", b"old")?;
+    disk.append("a", b"er")?;
+    disk.append("a", b"!!")?;
+    disk.crash(choice)?;
+    Ok(disk.read_at("a", 0, into)?)
+}
+
+#[test]
+fn choices_from_3_on_leave_stray_bytes_and_earlier_lengths(rt: HostRuntime) -> Result<(), Fail> {
+    let mut stray = false;
+    let mut earlier = false;
+    for choice in 3..8 {
+        let mut into = *b"old....";
+        let count = left_of_appended(rt.alloc(), choice, &mut into)?;
+        stray |= count == 7 && &into != b"older!!";
+        earlier |= count == 5 && &into[..5] == b"older".as_slice();
+    }
+    assert!(rt; stray);
+    assert!(rt; earlier);
+    Ok(())
+}
+
 /// Whether a crash by the choice leaves one of two new files and not the other.
 fn parts_two_names(alloc: Global, choice: u64) -> Result<bool, Fail> {
     let mut disk = MemDisk::new(alloc);

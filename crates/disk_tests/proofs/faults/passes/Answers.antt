@@ -1,4 +1,4 @@
-use Rattle.crash_disk.specs.FileLaws.{IsThere-Placed}
+use Rattle.crash_disk.proofs.FileLaws.{IsThere-Placed}
 use Rattle.disk_tests.proofs.faults.passes.Goals as goal
 
 pub make-requires : goal.make-requires
