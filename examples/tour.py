@@ -95,17 +95,19 @@ class Restores:
     def __init__(self, program, folder, replica):
         self.program, self.folder, self.replica = program, folder, replica
         self.count = 0
+        self.working = os.path.join(folder, "working")
+        os.makedirs(self.working, exist_ok=True)
 
     def run(self, flags, output):
         words = [self.program, "restore", "-o", output, *flags, self.replica]
-        ended = subprocess.run(words, stdout=subprocess.PIPE, text=True)
+        ended = subprocess.run(words, cwd=self.working, stdout=subprocess.PIPE, text=True)
         print(f"restore {' '.join(flags) or 'the newest'}: status {ended.returncode} {ended.stdout.strip()}")
         return ended
 
-    def gives(self, flags, txid):
+    def gives(self, flags, txid, output=None):
         """The restore writes the database as it was after the transaction."""
         self.count += 1
-        output = os.path.join(self.folder, f"back.{self.count}.db")
+        output = output or os.path.join(self.folder, f"back.{self.count}.db")
         ended = self.run(flags, output)
         pages = len(make_replica.pages_of(copy_of(self.folder, txid)))
         expect(ended.returncode == 0, "it is done")
@@ -150,6 +152,23 @@ def restore_all(restores):
     restores.refuses(["-if-db-not-exists"], 0, back)
 
 
+def among_namesakes(restores):
+    """Files of the output's name, and of its draft's, in the replica's folder and in the working folder stay."""
+    names = ["namesake.db", "namesake.db.litestream-tmp"]
+    namesakes = [os.path.join(folder, name) for folder in (restores.replica, restores.working) for name in names]
+    for path in namesakes:
+        with open(path, "wb") as file:
+            file.write(path.encode())
+    outputs = os.path.join(restores.folder, "outputs")
+    os.mkdir(outputs)
+    output = os.path.join(outputs, names[0])
+    restores.gives([], len(TRANSACTIONS), output)
+    expect(os.listdir(outputs) == [names[0]], "nothing else is in the output's folder")
+    for path in namesakes:
+        expect(read(path) == path.encode(), f"{os.path.relpath(path, restores.folder)} is as it was")
+        os.remove(path)
+
+
 def without_a_file(restores):
     """Of the later transactions none can be reached where a file of the chain is missing or damaged."""
     change = make_replica.path_of(restores.replica, 0, 5, 5)
@@ -173,6 +192,7 @@ def tour(program, folder):
     make_history(folder, replica)
     restores = Restores(program, folder, replica)
     restore_all(restores)
+    among_namesakes(restores)
     without_a_file(restores)
     print("SQLite's integrity check passes on each restored database, and its tables are those of the copy")
 

@@ -1,8 +1,9 @@
 -- From the steps of a restore to what its answers mean.
 use Rattle.std.proofs.Common.{◌≡◌, ℕ, ◌≤◌, List, [], length, Option, Some, None, refl, sym, ap, subst, ◌∙◌, inl, inr, arith}
 use Rattle.std.specs.Prelude.{Result, Ok, Err, OnOk, IfErr}
-use Rattle.crash_disk.specs.Fault.{Rose}
+use Rattle.ls_base.specs.Fault.{Rose}
 use Rattle.crash_disk.specs.Told.{Told, IfTold}
+use Rattle.crash_disk.specs.Files.{files_after}
 use Rattle.crash_disk.specs.Output.{gains_text, GainsFront}
 use Rattle.replica_store.specs.declared.file_name.FileName.{FileName}
 use Rattle.restore_apply.specs.declared.restored.Restored.{Restored}
@@ -16,16 +17,17 @@ use Rattle.restore_plan.specs.declared.chain.PlanFault.{PlanFault}
 use Rattle.restore_plan.specs.declared.chain.PlanFault.TheVariants as plan
 use Rattle.restore_plan.specs.Retained.{IsGreatestRetainedBelow}
 use Rattle.litestream_core.specs.Asked.{IsPlan, IsAsked, AreNames}
-use Rattle.litestream_core.specs.Command.{Scene, Explains, LacksOutput, Restores, why_of}
+use Rattle.litestream_core.specs.Command.{Explains, LacksOutput, IfFilesTold, Restores, why_of}
 use Rattle.litestream_core.specs.Line.{restored_text}
 use Rattle.litestream_core.specs.Preparing.{why_of_fault, why_of_plan, ExplainsReading}
 use Rattle.litestream_core.specs.Request.{Request}
+use Rattle.litestream_core.specs.Scene.{Scene}
 
 -- a count that rose from a later moment on rose from an earlier one on
 pub rose_sooner : (before mid now : ℕ) → before ≤ mid → Rose mid now → Rose before now
 rose_sooner before mid now later rose = record { least = omega (arith, rose.least) }
 
-module _ (r : Request) (scene : Scene) (t : ℕ) (plan : List FileName) (lacks : LacksOutput scene.target r) (is : IfTold scene.store (λ events. IsPlan events r t plan)) where
+module _ (r : Request) (scene : Scene) (t : ℕ) (plan : List FileName) (lacks : LacksOutput scene.target r) (is : IfFilesTold scene.store (λ files. IsPlan files r t plan)) where
   pub explains_fault : (store_mid target_mid : ℕ) → scene.store_faults ≤ store_mid → scene.target_faults ≤ target_mid → scene.text_after ≡ scene.text → (found : RestoreFault)
       → ExplainsRestore scene.store plan r.output scene.target scene.target_after store_mid scene.store_faults_after target_mid scene.target_faults_after found → Explains r scene (why_of_fault found)
   explains_fault store_mid target_mid store_later target_later text (fault.Damaged name damage) (same, first) = (
@@ -60,8 +62,8 @@ module _ (r : Request) (scene : Scene) (t : ℕ) (plan : List FileName) (lacks :
   )
   explains_fault store_mid target_mid store_later target_later text fault.Memory same = record { target = same; text = text }
 
-  module _ (restored : Restored) (ok : IfTold scene.store (λ events. Applies events plan r.output scene.target scene.target_after restored)) where
-    abbrev restores : IfTold scene.store (λ events. Restores events r scene)
+  module _ (restored : Restored) (ok : IfTold scene.store (λ events. Applies (files_after events) plan r.output scene.target scene.target_after restored)) where
+    abbrev restores : IfFilesTold scene.store (λ files. Restores files r scene)
     restores = λ events told.
         let made = ok events told in
         record {
@@ -92,22 +94,23 @@ module _ (r : Request) (scene : Scene) (t : ℕ) (plan : List FileName) (lacks :
       },
     )
 
--- what was told after the reading, of what was told before it
-module _ (store store_mid target target_mid target_after : Told) (plan lent : List FileName) (output : List ℕ) where
-  pub explained_from : (a b c d : ℕ) (found : RestoreFault) → store_mid ≡ store → target_mid ≡ target → lent ≡ plan
-      → ExplainsRestore store_mid lent output target_mid target_after a b c d found → ExplainsRestore store plan output target target_after a b c d found
-  explained_from a b c d found same_store same_target same_plan explained =
+-- what was told after the reading and after the writing, of what lay in the folders before it and after it
+module _ (store store_mid target target_mid target_after after_mid : Told) (plan lent : List FileName) (output : List ℕ) (same_store : store_mid ≡ store) (same_target : target_mid ≡ target)
+    (same_after : after_mid ≡ target_after) (same_plan : lent ≡ plan) where
+  pub explained_from : (a b c d : ℕ) (found : RestoreFault) → ExplainsRestore store_mid lent output target_mid after_mid a b c d found → ExplainsRestore store plan output target target_after a b c d found
+  explained_from a b c d found explained =
       subst (λ (p : List FileName). ExplainsRestore store p output target target_after a b c d found) same_plan
-      (subst (λ (u : Told). ExplainsRestore store lent output u target_after a b c d found) same_target (subst (λ (u : Told). ExplainsRestore u lent output target_mid target_after a b c d found) same_store explained))
+      (subst (λ (u : Told). ExplainsRestore store lent output target u a b c d found) same_after
+      (subst (λ (u : Told). ExplainsRestore store lent output u after_mid a b c d found) same_target (subst (λ (u : Told). ExplainsRestore u lent output target_mid after_mid a b c d found) same_store explained)))
 
-  pub applied_from : (restored : Restored) → store_mid ≡ store → target_mid ≡ target → lent ≡ plan
-      → IfTold store_mid (λ events. Applies events lent output target_mid target_after restored) → IfTold store (λ events. Applies events plan output target target_after restored)
-  applied_from restored same_store same_target same_plan applied = λ events told.
-      subst (λ (p : List FileName). Applies events p output target target_after restored) same_plan
-      (subst (λ (u : Told). Applies events lent output u target_after restored) same_target (applied events (same_store ∙ told)))
+  pub applied_from : (restored : Restored) → IfTold store_mid (λ events. Applies (files_after events) lent output target_mid after_mid restored) → IfTold store (λ events. Applies (files_after events) plan output target target_after restored)
+  applied_from restored applied = λ events told.
+      subst (λ (p : List FileName). Applies (files_after events) p output target target_after restored) same_plan
+      (subst (λ (u : Told). Applies (files_after events) lent output target u restored) same_after
+      (subst (λ (u : Told). Applies (files_after events) lent output u after_mid restored) same_target (applied events (same_store ∙ told))))
 
 -- why there is no plan to the transaction that is asked for
-pub explains_plan : (r : Request) (store : Told) (before now : ℕ) (names : List FileName) (t : ℕ) (found : PlanFault) → IfTold store (λ events. AreNames events names) → IfTold store (λ events. IsAsked events names r.target t)
+pub explains_plan : (r : Request) (store : Told) (before now : ℕ) (names : List FileName) (t : ℕ) (found : PlanFault) → IfFilesTold store (λ files. AreNames files names) → IfFilesTold store (λ files. IsAsked files names r.target t)
     → ((after : ℕ) → found ≡ plan.MissingRange after → IsRetained names t → ⊥) → ((after : ℕ) → found ≡ plan.MissingRange after → IsGreatestRetainedBelow names t after) → ExplainsReading r store before now (why_of_plan found)
 explains_plan r store before now names t (plan.MissingRange after) are asked missing greatest = λ events told. record {
   names = names;

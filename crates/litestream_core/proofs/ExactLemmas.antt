@@ -3,7 +3,7 @@ use Rattle.std.proofs.Common.{◌≡◌, ℕ, List, [], ◌∷◌, length, Bool,
 use Rattle.std.specs.Prelude.{◌⊎◌, option_map, IsSome, is_some, ℤ, pos}
 use Rattle.std.specs.List.{Contains}
 use Rattle.crash_disk.specs.declared.event.Event.{Event}
-use Rattle.crash_disk.specs.Files.{file_at, size_of}
+use Rattle.crash_disk.specs.Files.{Files, file_at, size_of, files_after}
 use Rattle.ls_words.specs.declared.command.Target.{Target}
 use Rattle.ls_words.specs.declared.command.Target.TheVariants.{Newest, At, Moment}
 use Rattle.replica_store.specs.declared.error.Damage.{Damage}
@@ -11,17 +11,18 @@ use Rattle.replica_store.specs.declared.file_name.FileName.{FileName}
 use Rattle.replica_store.specs.declared.dated_names.Dated.{Dated}
 use Rattle.replica_store.specs.Dating.{AreDated}
 use Rattle.replica_store.specs.Listing.{AreListed, path_of, paths_of}
-use Rattle.crash_disk.specs.Fault.{Rose}
+use Rattle.ls_base.specs.Fault.{Rose}
 use Rattle.ls_base.specs.State.{State}
 use Rattle.restore_apply.specs.Restoring.{Makes, IsFirstDamaged, IsFirstMissing}
-use Rattle.restore_apply.proofs.DamageLemmas.{undamaged, unspoilt, complete}
 use Rattle.litestream_core.specs.declared.outcome.Why.{Why}
 use Rattle.litestream_core.specs.declared.outcome.Why.TheVariants.{Done, SkippedOutput, SkippedReplica, NotBuilt, Usage, NoReplica, MissingRange, NoMoment, Damaged, PageMissing, OutputExists, StoreFault, TargetFault, SinkFault, Memory}
 use Rattle.litestream_core.specs.Asked.{AreNames, IsAsked, IsOfMoment, IsPlan, IsMissing, IsBefore, IsBadHeader, LacksMoment}
-use Rattle.litestream_core.specs.Command.{Scene, Explains, NotRisen}
+use Rattle.litestream_core.specs.Command.{Explains, NotRisen}
 use Rattle.litestream_core.specs.Exact.{IsFree, IsTaken, HeadersAreGood, HasABadHeader, IsInTime, HasNoneOf, HasNoChain, MayBePlanned, PlanIsDamaged, PlanLacksPage, PlanMakesState, ComesExactly}
+use Rattle.litestream_core.specs.Laws.{Laws}
 use Rattle.litestream_core.specs.Request.{Request}
-use Rattle.litestream_core.proofs.FaithfulLemmas.{plan_makes}
+use Rattle.litestream_core.specs.Scene.{Scene}
+use Rattle.litestream_core.proofs.PlanLemmas.{plan_makes}
 use Rattle.litestream_core.proofs.HeaderLemmas.{all_headers_good}
 
 absent_size : (o : Option (List ℕ)) (n : ℕ) → o ≡ None → option_map length o ≡ Some n → ⊥
@@ -39,7 +40,7 @@ both_ways : (b : Bool) → b ≡ true → b ≡ false → ⊥
 both_ways b set unset = cc
 
 -- a replica without names has none
-none_listed : (store : List Event) (names : List FileName) → AreListed store [] → AreNames store names → ⊥
+none_listed : (store : Files) (names : List FileName) → AreListed store [] → AreNames store names → ⊥
 none_listed store [] none are = are.some refl
 none_listed store (name ∷ names) none are =
     let has : Contains (paths_of (name ∷ names)) (path_of name) = (0, omega arith, refl) in
@@ -48,13 +49,13 @@ none_listed store (name ∷ names) none are =
     absurd (omega (arith, never.1))
 
 -- what became of a plan
-data Ended (scene : Scene) (store : List Event) (plan : List FileName) (why : Why) : Type 0 where
+data Ended (scene : Scene) (store : Files) (plan : List FileName) (why : Why) : Type 0 where
   Made : (state : State) → Makes store plan state → (why ≡ Done) ⊎ Rose scene.sink_faults scene.sink_faults_after → Ended scene store plan why
   Spoilt : (name : FileName) (damage : Damage) → why ≡ Damaged name damage → IsFirstDamaged store plan name damage → Ended scene store plan why
   Lacked : (name : FileName) (number : ℕ) → why ≡ PageMissing name number → IsFirstMissing store plan name number → Ended scene store plan why
 
 -- how far a restore came, where its output's name was free and no disk failed
-data Reached (r : Request) (scene : Scene) (store : List Event) (why : Why) : Type 0 where
+data Reached (r : Request) (scene : Scene) (store : Files) (why : Why) : Type 0 where
   OutOfMemory : why ≡ Memory → Reached r scene store why
   NamesNone : AreListed store [] → ((why ≡ SkippedReplica) × (r.if_replica_exists ≡ true)) ⊎ ((why ≡ NoReplica) × (r.if_replica_exists ≡ false)) → Reached r scene store why
   TooEarly : why ≡ NoMoment → IsBefore store r → Reached r scene store why
@@ -63,7 +64,7 @@ data Reached (r : Request) (scene : Scene) (store : List Event) (why : Why) : Ty
   HasPlan : (t : ℕ) (plan : List FileName) → IsPlan store r t plan → Ended scene store plan why → Reached r scene store why
 
 module _ (r : Request) (scene : Scene) (store : List Event) (told : scene.store ≡ Some store) (is : IsFree r scene) where
-  reached : (why : Why) → Explains r scene why → Reached r scene store why
+  reached : (why : Why) → Explains r scene why → Reached r scene (files_after store) why
   reached Done (_, tells) = let it = (tells store told).restored in HasPlan it.t it.plan it.is (Made it.state it.makes (inl refl))
   reached SkippedOutput (_, _, there) = absurd (absent_there _ is.free (there is.target is.told))
   reached (OutputExists n) (_, _, there) = absurd (absent_size _ n is.free (there is.target is.told))
@@ -83,7 +84,7 @@ module _ (r : Request) (scene : Scene) (store : List Event) (told : scene.store 
   reached NotBuilt never = absurd never
   reached (Usage usage) never = absurd never
 
-module _ (r : Request) (scene : Scene) (store : List Event) where
+module _ (laws : Laws) (r : Request) (scene : Scene) (store : Files) where
   no_replica : (why : Why) → AreListed store [] → r.if_replica_exists ≡ false → Reached r scene store why → (why ≡ NoReplica) ⊎ (why ≡ Memory)
   no_replica why none flag (OutOfMemory e) = inr e
   no_replica why none flag (NamesNone _ (inl (e, set))) = absurd (both_ways r.if_replica_exists set flag)
@@ -123,16 +124,16 @@ module _ (r : Request) (scene : Scene) (store : List Event) where
   bad_header why ms some is bad (TooEarly _ before) =
       let first = bad before.names before.are in
       let early = too_early ms before.names is before.lacks in
-      absurd (all_headers_good store before.names early.0 first.0 first.1 early.1 first.2)
+      absurd (all_headers_good laws store before.names early.0 first.0 first.1 early.1 first.2)
   bad_header why ms some is bad (LacksChain after _ missing) =
       let first = bad missing.names missing.are in
       let own = of_moment (pos ms) missing.names missing.t is missing.asked in
-      absurd (all_headers_good store missing.names own.dated first.0 first.1 own.moments first.2)
+      absurd (all_headers_good laws store missing.names own.dated first.0 first.1 own.moments first.2)
   bad_header why ms some is bad (ReadsBadHeader name damage e _) = inl (name, damage, e)
   bad_header why ms some is bad (HasPlan t plan planned _) =
       let first = bad planned.names planned.are in
       let own = of_moment (pos ms) planned.names t is planned.asked in
-      absurd (all_headers_good store planned.names own.dated first.0 first.1 own.moments first.2)
+      absurd (all_headers_good laws store planned.names own.dated first.0 first.1 own.moments first.2)
 
   missing_range : (why : Why) → (AreListed store [] → ⊥) → HeadersAreGood store r → IsInTime store r → HasNoChain store r → Reached r scene store why → ((after : ℕ) × (why ≡ MissingRange after)) ⊎ (why ≡ Memory)
   missing_range why some good timely none (OutOfMemory e) = inr e
@@ -154,15 +155,15 @@ module _ (r : Request) (scene : Scene) (store : List Event) where
   damaged : (why : Why) → PlanIsDamaged store r → (why ≡ Memory) ⊎ ((t : ℕ) × (plan : List FileName) × IsPlan store r t plan × Ended scene store plan why)
       → ((name : FileName) × (damage : Damage) × (why ≡ Damaged name damage)) ⊎ (why ≡ Memory)
   damaged why bad (inl e) = inr e
-  damaged why bad (inr (t, plan, is, Made state makes _)) = let first = bad t plan is in absurd (undamaged store plan state first.0 first.1 makes first.2)
+  damaged why bad (inr (t, plan, is, Made state makes _)) = let first = bad t plan is in absurd (laws.sound store plan makes.read first.0 first.1 makes.are first.2)
   damaged why bad (inr (t, plan, is, Spoilt name damage e _)) = inl (name, damage, e)
-  damaged why bad (inr (t, plan, is, Lacked name number _ missing)) = let first = bad t plan is in absurd (unspoilt store plan first.0 first.1 missing.files missing.are first.2)
+  damaged why bad (inr (t, plan, is, Lacked name number _ missing)) = let first = bad t plan is in absurd (laws.sound store plan missing.read first.0 first.1 missing.are first.2)
 
   page_missing : (why : Why) → PlanLacksPage store r → (why ≡ Memory) ⊎ ((t : ℕ) × (plan : List FileName) × IsPlan store r t plan × Ended scene store plan why)
       → ((name : FileName) × (number : ℕ) × (why ≡ PageMissing name number)) ⊎ (why ≡ Memory)
   page_missing why bad (inl e) = inr e
-  page_missing why bad (inr (t, plan, is, Made state makes _)) = let first = bad t plan is in absurd (complete store plan state first.0 first.1 makes first.2)
-  page_missing why bad (inr (t, plan, is, Spoilt name damage _ spoilt)) = let first = bad t plan is in absurd (unspoilt store plan name damage first.2.files first.2.are spoilt)
+  page_missing why bad (inr (t, plan, is, Made state makes _)) = let first = bad t plan is in absurd (laws.whole store plan state first.0 first.1 makes first.2)
+  page_missing why bad (inr (t, plan, is, Spoilt name damage _ spoilt)) = let first = bad t plan is in absurd (laws.sound store plan first.2.read name damage first.2.are spoilt)
   page_missing why bad (inr (t, plan, is, Lacked name number e _)) = inl (name, number, e)
 
   done : (why : Why) → PlanMakesState store r → NotRisen scene.sink_faults scene.sink_faults_after → (why ≡ Memory) ⊎ ((t : ℕ) × (plan : List FileName) × IsPlan store r t plan × Ended scene store plan why)
@@ -170,8 +171,8 @@ module _ (r : Request) (scene : Scene) (store : List Event) where
   done why good calm (inl e) = inr e
   done why good calm (inr (t, plan, is, Made state makes (inl e))) = inl e
   done why good calm (inr (t, plan, is, Made state makes (inr rose))) = absurd (calm rose)
-  done why good calm (inr (t, plan, is, Spoilt name damage _ spoilt)) = let makes = good t plan is in absurd (undamaged store plan makes.0 name damage makes.1 spoilt)
-  done why good calm (inr (t, plan, is, Lacked name number _ missing)) = let makes = good t plan is in absurd (complete store plan makes.0 name number makes.1 missing)
+  done why good calm (inr (t, plan, is, Spoilt name damage _ spoilt)) = let makes = good t plan is in absurd (laws.sound store plan makes.1.read name damage makes.1.are spoilt)
+  done why good calm (inr (t, plan, is, Lacked name number _ missing)) = let makes = good t plan is in absurd (laws.whole store plan makes.0 name number makes.1 missing)
 
 module _ (r : Request) (scene : Scene) (size : ℕ) (is : IsTaken r scene size) where
   exists : r.if_db_not_exists ≡ false → (why : Why) → Explains r scene why → (why ≡ OutputExists size) ⊎ (why ≡ Memory)
@@ -208,18 +209,19 @@ module _ (r : Request) (scene : Scene) (size : ℕ) (is : IsTaken r scene size) 
   skipped flag NotBuilt never = absurd never
   skipped flag (Usage usage) never = absurd never
 
-pub comes_exactly : (r : Request) (scene : Scene) (why : Why) → Explains r scene why → ComesExactly r scene why
-comes_exactly r scene why explains = record {
+pub comes_exactly : Laws → (r : Request) (scene : Scene) (why : Why) → Explains r scene why → ComesExactly r scene why
+comes_exactly laws r scene why explains = record {
   output_exists = λ size taken flag. exists r scene size taken flag why explains;
   skipped_output = λ size taken flag. skipped r scene size taken flag why explains;
-  no_replica = λ store told free none flag. no_replica r scene store why none flag (reached r scene store told free why explains);
-  skipped_replica = λ store told free none flag. skipped_replica r scene store why none flag (reached r scene store told free why explains);
-  no_moment = λ store moment told free some is good none. no_moment r scene store why moment some is good none (reached r scene store told free why explains);
-  damaged = λ store told free may bad. damaged r scene store why bad (planned r scene store why may (reached r scene store told free why explains));
-  page_missing = λ store told free may bad. page_missing r scene store why bad (planned r scene store why may (reached r scene store told free why explains));
-  done = λ store told free may good calm. done r scene store why good calm (planned r scene store why may (reached r scene store told free why explains));
-  faithful = λ store history log told faithful bytes free may calm.
-      done r scene store why (plan_makes store r history log faithful bytes) calm (planned r scene store why may (reached r scene store told free why explains));
-  bad_header = λ store ms told free some is bad. bad_header r scene store why ms some is bad (reached r scene store told free why explains);
-  missing_range = λ store told free some good timely none. missing_range r scene store why some good timely none (reached r scene store told free why explains);
+  no_replica = λ store told free none flag. no_replica laws r scene (files_after store) why none flag (reached r scene store told free why explains);
+  skipped_replica = λ store told free none flag. skipped_replica laws r scene (files_after store) why none flag (reached r scene store told free why explains);
+  no_moment = λ store told free moment some is good none. no_moment laws r scene (files_after store) why moment some is good none (reached r scene store told free why explains);
+  bad_header = λ store told free ms some is bad. bad_header laws r scene (files_after store) why ms some is bad (reached r scene store told free why explains);
+  missing_range = λ store told free some good timely none. missing_range laws r scene (files_after store) why some good timely none (reached r scene store told free why explains);
+  damaged = λ store told free may bad. damaged laws r scene (files_after store) why bad (planned laws r scene (files_after store) why may (reached r scene store told free why explains));
+  page_missing = λ store told free may bad. page_missing laws r scene (files_after store) why bad (planned laws r scene (files_after store) why may (reached r scene store told free why explains));
+  done = λ store told free may good calm. done laws r scene (files_after store) why good calm (planned laws r scene (files_after store) why may (reached r scene store told free why explains));
+  faithful = λ store told free history log faithful may calm.
+      done laws r scene (files_after store) why (plan_makes laws (files_after store) r history log faithful) calm
+      (planned laws r scene (files_after store) why may (reached r scene store told free why explains));
 }

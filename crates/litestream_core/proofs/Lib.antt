@@ -2,7 +2,6 @@ pub mod RequestLemmas
 pub mod NewestLemmas
 pub mod PlanLemmas
 pub mod CommandLemmas
-pub mod FaithfulLemmas
 pub mod HeaderLemmas
 pub mod ExactLemmas
 pub mod Theorems

@@ -1,10 +1,10 @@
 -- The promise of a restore.
-use Rattle.std.proofs.Common.{◌≡◌, ℕ, List, length, Option, Some, None, refl, sym, ap, subst, ◌∙◌, inl, inr}
+use Rattle.std.proofs.Common.{◌≡◌, ℕ, ◌+◌, ◌≤◌, arith, List, length, drop, IfSome, Option, Some, None, refl, sym, ap, subst, ◌∙◌, inl, inr}
 use Rattle.std.specs.FinMap.{get}
 use Rattle.crash_disk.specs.declared.event.Event.{Event}
 use Rattle.crash_disk.specs.Files.{files_after}
 use Rattle.crash_disk.specs.GoesOn.{GoesOn}
-use Rattle.crash_disk.specs.Images.{WasCrashImageSince}
+use Rattle.crash_disk.specs.Images.{IsCrashImage, WasCrashImageSince}
 use Rattle.ls_base.specs.History.{History}
 use Rattle.ls_base.specs.State.{State, state_bytes}
 use Rattle.ls_base.specs.SyncLog.{SyncLog}
@@ -12,17 +12,18 @@ use Rattle.replica_store.specs.declared.file_name.FileName.{FileName}
 use Rattle.replica_store.specs.Faithful.{IsFaithful}
 use Rattle.restore_apply.specs.Restoring.{Makes}
 use Rattle.restore_apply.specs.Staging.{WritesFile, MayWriteFile}
-use Rattle.restore_apply.specs.Stop.{LeavesNothing, LeavesAtMost}
-use Rattle.restore_apply.proofs.StopLemmas.{stop_same, some_weaker}
+use Rattle.crash_disk.specs.Stop.{LeavesNothing, LeavesAtMost}
 use Rattle.litestream_core.specs.declared.outcome.Why.{Why}
 use Rattle.litestream_core.specs.declared.outcome.Why.TheVariants.{Done, SkippedOutput, SkippedReplica, NotBuilt, Usage, NoReplica, MissingRange, NoMoment, Damaged, PageMissing, OutputExists, StoreFault, TargetFault, SinkFault, Memory}
 use Rattle.litestream_core.specs.Asked.{IsPlan}
-use Rattle.litestream_core.specs.Command.{ForRequest, Scene, Explains, Restored, KeepsPromise, IsRecorded, SurvivesAnyStop}
+use Rattle.litestream_core.specs.Command.{ForRequest, Explains, Restored, KeepsPromise, IsRecorded, SurvivesAnyStop}
+use Rattle.litestream_core.specs.Laws.{Laws}
 use Rattle.litestream_core.specs.Request.{Request, request_of}
+use Rattle.litestream_core.specs.Scene.{Scene}
 use Rattle.litestream_core.proofs.PlanLemmas.{plan_recorded}
 
-pub keeps_promise : (r : Request) (scene : Scene) (why : Why) → Explains r scene why → KeepsPromise r scene why
-keeps_promise r scene why explains history log events told faithful is_done =
+pub keeps_promise : Laws → (r : Request) (scene : Scene) (why : Why) → Explains r scene why → KeepsPromise r scene why
+keeps_promise laws r scene why explains history log events told faithful is_done =
     let done : Explains r scene Done = subst (λ (answer : Why). Explains r scene answer) is_done explains in
     let tells = done.1 events told in
     let restored = tells.restored in
@@ -32,25 +33,40 @@ keeps_promise r scene why explains history log events told faithful is_done =
       t = restored.t;
       asked = restored.is.asked;
       state = restored.state;
-      recorded = plan_recorded events r restored.t restored.plan restored.state history log faithful restored.is restored.makes;
+      recorded = plan_recorded laws (files_after events) r history log faithful restored.t restored.plan restored.state restored.is restored.makes;
       output = restored.output;
       line = tells.line;
     }
 
+some_weaker : (file : Option (List ℕ)) (P Q : List ℕ → Type 0) → ((bytes : List ℕ) → P bytes → Q bytes) → IfSome file P → IfSome file Q
+some_weaker None P Q implies held = tt
+some_weaker (Some bytes) P Q implies held = implies bytes held
+
+none_has : (file : Option (List ℕ)) (P : List ℕ → Type 0) → file ≡ None → IfSome file P
+none_has None P none = tt
+none_has (Some bytes) P none = absurd cc
+
+-- where nothing was changed, a crash leaves what one left before
+stop_same : (name : List ℕ) (P : List ℕ → Type 0) (x y : List Event) → y ≡ x → LeavesNothing name x → LeavesAtMost name P x y
+stop_same name P x y same nothing image was =
+    let now : was.ago ≡ 0 = omega (arith, was.since, ap length same) in
+    let is : IsCrashImage x image = subst (λ (events : List Event). IsCrashImage events image) same (subst (λ ago. IsCrashImage (drop ago y) image) now was.was) in
+    none_has (get image name) P (nothing image is)
+
 same_events : (a b : List Event) (o : Option (List Event)) → o ≡ Some a → o ≡ Some b → a ≡ b
 same_events a b o is_a is_b = let e : Some a ≡ Some b = sym is_a ∙ is_b in cc
 
-module _ (r : Request) (scene : Scene) (history : History) (log : SyncLog) (store before after : List Event) (told : scene.store ≡ Some store) (faithful : IsFaithful (files_after store) history log)
+module _ (laws : Laws) (r : Request) (scene : Scene) (history : History) (log : SyncLog) (store before after : List Event) (told : scene.store ≡ Some store) (faithful : IsFaithful (files_after store) history log)
     (told_before : scene.target ≡ Some before) (told_after : scene.target_after ≡ Some after) (nothing : LeavesNothing r.output before) where
   abbrev Recorded : List ℕ → Type 0
-  Recorded bytes = IsRecorded store r history log bytes
+  Recorded bytes = IsRecorded (files_after store) r history log bytes
 
   -- the target wasn't changed
   stop_unchanged : scene.target_after ≡ scene.target → LeavesAtMost r.output Recorded before after
   stop_unchanged same = stop_same r.output Recorded before after (same_events after before scene.target_after told_after (same ∙ told_before)) nothing
 
   -- what the plan makes was written, or may have been
-  stop_written : (t : ℕ) (plan : List FileName) (state : State) (P : List Event → List Event → Type 0) → IsPlan store r t plan → Makes store plan state → GoesOn scene.target scene.target_after P
+  stop_written : (t : ℕ) (plan : List FileName) (state : State) (P : List Event → List Event → Type 0) → IsPlan (files_after store) r t plan → Makes (files_after store) plan state → GoesOn scene.target scene.target_after P
       → ((x y : List Event) → P x y → LeavesNothing r.output x → LeavesAtMost r.output (λ found. found ≡ state_bytes state) x y) → LeavesAtMost r.output Recorded before after
   stop_written t plan state P is makes goes holds image was =
       let went = goes.told before told_before in
@@ -62,7 +78,7 @@ module _ (r : Request) (scene : Scene) (history : History) (log : SyncLog) (stor
         t = t;
         asked = is.asked;
         state = state;
-        recorded = plan_recorded store r t plan state history log faithful is makes;
+        recorded = plan_recorded laws (files_after store) r history log faithful t plan state is makes;
         same = whole;
       })
       (holds before went.0 went.2 nothing image (subst (λ (es : List Event). WasCrashImageSince es (length before) image) (sym same) was))
@@ -93,8 +109,8 @@ module _ (r : Request) (scene : Scene) (history : History) (log : SyncLog) (stor
   stop_of NotBuilt explains = absurd explains
   stop_of (Usage usage) explains = absurd explains
 
-pub survives_any_stop : (r : Request) (scene : Scene) (why : Why) → Explains r scene why → SurvivesAnyStop r scene.store scene.target scene.target_after
-survives_any_stop r scene why explains history log store before after told faithful told_before told_after nothing = stop_of r scene history log store before after told faithful told_before told_after nothing why explains
+pub survives_any_stop : Laws → (r : Request) (scene : Scene) (why : Why) → Explains r scene why → SurvivesAnyStop r scene
+survives_any_stop laws r scene why explains history log store before after told faithful told_before told_after nothing = stop_of laws r scene history log store before after told faithful told_before told_after nothing why explains
 
 same_request : (a b : Request) → ◌≡◌ {A = Option Request} (Some a) (Some b) → a ≡ b
 same_request a b e = cc

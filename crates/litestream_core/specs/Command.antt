@@ -2,10 +2,10 @@
 use Rattle.std.specs.Prelude.{◌≡◌, ◌≢◌, ℕ, List, [], Bool, true, false, Option, Some, None, IsSome, Result, Ok, Err, ◌⊎◌, length, IfSome}
 use Rattle.std.specs.FinMap.{get}
 use Rattle.crash_disk.specs.declared.event.Event.{Event}
-use Rattle.crash_disk.specs.Fault.{Rose}
+use Rattle.ls_base.specs.Fault.{Rose}
 use Rattle.crash_disk.specs.GoesOn.{GoesOn}
 use Rattle.crash_disk.specs.Told.{Told, IfTold}
-use Rattle.crash_disk.specs.Files.{file_at, size_of, files_after}
+use Rattle.crash_disk.specs.Files.{Files, file_at, size_of, files_after}
 use Rattle.crash_disk.specs.Output.{gains_text, GainsFront}
 use Rattle.ls_base.specs.State.{State, state_bytes}
 use Rattle.ls_base.specs.History.{History}
@@ -16,78 +16,69 @@ use Rattle.replica_store.specs.Faithful.{IsFaithful}
 use Rattle.replica_store.specs.Listing.{AreListed}
 use Rattle.restore_apply.specs.Restoring.{Makes, IsFirstDamaged, IsFirstMissing}
 use Rattle.restore_apply.specs.Staging.{WritesFile, MayWriteFile}
-use Rattle.restore_apply.specs.Stop.{LeavesNothing, LeavesAtMost}
+use Rattle.crash_disk.specs.Stop.{LeavesNothing, LeavesAtMost}
 use Rattle.litestream_core.specs.declared.outcome.Why.{Why}
 use Rattle.litestream_core.specs.declared.outcome.Why.TheVariants.{Done, SkippedOutput, SkippedReplica, NotBuilt, Usage, NoReplica, MissingRange, NoMoment, Damaged, PageMissing, OutputExists, StoreFault, TargetFault, SinkFault, Memory}
 use Rattle.litestream_core.specs.Asked.{AreNames, IsAsked, IsPlan, IsMissing, IsBefore, IsBadHeader, LacksMoment, IsTooEarly}
 use Rattle.litestream_core.specs.Line.{restored_text}
 use Rattle.litestream_core.specs.Request.{Request, request_of}
-
--- what the objects of a call tell, before it and after it
-pub record Scene : Type 0 where
-  pub store : Told
-  pub target : Told
-  pub target_after : Told
-  pub text : Option (List ℕ)
-  pub text_after : Option (List ℕ)
-  pub store_faults : ℕ
-  pub store_faults_after : ℕ
-  pub target_faults : ℕ
-  pub target_faults_after : ℕ
-  pub sink_faults : ℕ
-  pub sink_faults_after : ℕ
+use Rattle.litestream_core.specs.Scene.{Scene}
 
 -- why a restore that returned this ended
 abbrev pub why_of : Result (Unit {0}) Why → Why
 why_of (Ok x) = Done
 why_of (Err why) = why
 
+-- a fact about the files as they read, asked only where they are told
+abbrev pub IfFilesTold : Told → (Files → Type 0) → Type 0
+IfFilesTold told P = IfTold told (λ events. P (files_after events))
+
 -- the output's name is not there
 abbrev pub LacksOutput : Told → Request → Type 0
 LacksOutput target r = IfTold target (λ events. file_at events r.output ≡ None)
 
 -- What the plan's files make was written under the output's name.
-pub record Restores (events : List Event) (r : Request) (scene : Scene) : Type 0 where
+pub record Restores (files : Files) (r : Request) (scene : Scene) : Type 0 where
   pub t : ℕ
   pub plan : List FileName
-  pub is : IsPlan events r t plan
+  pub is : IsPlan files r t plan
   pub state : State
-  pub makes : Makes events plan state
+  pub makes : Makes files plan state
   pub output : GoesOn scene.target scene.target_after (WritesFile r.output (state_bytes state))
 
 -- the line was printed as well
-pub record RestoresAndTells (events : List Event) (r : Request) (scene : Scene) : Type 0 where
-  pub restored : Restores events r scene
+pub record RestoresAndTells (files : Files) (r : Request) (scene : Scene) : Type 0 where
+  pub restored : Restores files r scene
   pub line : scene.text_after ≡ gains_text scene.text (restored_text restored.t (length restored.state.pages))
 
 -- or a front of it
-pub record RestoresUntold (events : List Event) (r : Request) (scene : Scene) : Type 0 where
-  pub restored : Restores events r scene
+pub record RestoresUntold (files : Files) (r : Request) (scene : Scene) : Type 0 where
+  pub restored : Restores files r scene
   pub line : GainsFront scene.text scene.text_after (restored_text restored.t (length restored.state.pages))
 
 -- what the plan's files make, or nothing, was written while the target failed
-pub record MayRestore (events : List Event) (r : Request) (scene : Scene) : Type 0 where
+pub record MayRestore (files : Files) (r : Request) (scene : Scene) : Type 0 where
   pub absent : LacksOutput scene.target r
   pub t : ℕ
   pub plan : List FileName
-  pub is : IsPlan events r t plan
+  pub is : IsPlan files r t plan
   pub state : State
-  pub makes : Makes events plan state
+  pub makes : Makes files plan state
   pub output : GoesOn scene.target scene.target_after (MayWriteFile r.output (state_bytes state))
 
 -- a file of the plan is damaged
-pub record IsDamagedPlan (events : List Event) (r : Request) (name : FileName) (damage : Damage) : Type 0 where
+pub record IsDamagedPlan (files : Files) (r : Request) (name : FileName) (damage : Damage) : Type 0 where
   pub t : ℕ
   pub plan : List FileName
-  pub is : IsPlan events r t plan
-  pub first : IsFirstDamaged events plan name damage
+  pub is : IsPlan files r t plan
+  pub first : IsFirstDamaged files plan name damage
 
 -- a page of the plan is missing
-pub record IsMissingPage (events : List Event) (r : Request) (name : FileName) (number : ℕ) : Type 0 where
+pub record IsMissingPage (files : Files) (r : Request) (name : FileName) (number : ℕ) : Type 0 where
   pub t : ℕ
   pub plan : List FileName
-  pub is : IsPlan events r t plan
-  pub first : IsFirstMissing events plan name number
+  pub is : IsPlan files r t plan
+  pub first : IsFirstMissing files plan name number
 
 -- neither the target nor the text changed
 pub record WritesNothing (scene : Scene) : Type 0 where
@@ -96,21 +87,38 @@ pub record WritesNothing (scene : Scene) : Type 0 where
 
 -- What each answer to a request means. A later step's answer comes only where no earlier step refused.
 abbrev pub Explains : Request → Scene → Why → Type 0
-Explains r scene Done = LacksOutput scene.target r × IfTold scene.store (λ events. RestoresAndTells events r scene)
-Explains r scene SkippedOutput = WritesNothing scene × (r.if_db_not_exists ≡ true) × IfTold scene.target (λ events. IsSome (file_at events r.output))
-Explains r scene (OutputExists size) = WritesNothing scene × (r.if_db_not_exists ≡ false) × IfTold scene.target (λ events. size_of events r.output ≡ Some size)
-Explains r scene SkippedReplica = WritesNothing scene × LacksOutput scene.target r × (r.if_replica_exists ≡ true) × IfTold scene.store (λ events. AreListed events [])
-Explains r scene NoReplica = WritesNothing scene × LacksOutput scene.target r × (r.if_replica_exists ≡ false) × IfTold scene.store (λ events. AreListed events [])
-Explains r scene NoMoment = WritesNothing scene × LacksOutput scene.target r × IfTold scene.store (λ events. IsBefore events r)
-Explains r scene (MissingRange after) = WritesNothing scene × LacksOutput scene.target r × IfTold scene.store (λ events. IsMissing events r after)
+Explains r scene Done =
+    LacksOutput scene.target r × IfFilesTold scene.store (λ files. RestoresAndTells files r scene)
+Explains r scene SkippedOutput =
+    WritesNothing scene × (r.if_db_not_exists ≡ true)
+    × IfTold scene.target (λ events. IsSome (file_at events r.output))
+Explains r scene (OutputExists size) =
+    WritesNothing scene × (r.if_db_not_exists ≡ false)
+    × IfTold scene.target (λ events. size_of events r.output ≡ Some size)
+Explains r scene SkippedReplica =
+    WritesNothing scene × LacksOutput scene.target r × (r.if_replica_exists ≡ true)
+    × IfFilesTold scene.store (λ files. AreListed files [])
+Explains r scene NoReplica =
+    WritesNothing scene × LacksOutput scene.target r × (r.if_replica_exists ≡ false)
+    × IfFilesTold scene.store (λ files. AreListed files [])
+Explains r scene NoMoment =
+    WritesNothing scene × LacksOutput scene.target r × IfFilesTold scene.store (λ files. IsBefore files r)
+Explains r scene (MissingRange after) =
+    WritesNothing scene × LacksOutput scene.target r × IfFilesTold scene.store (λ files. IsMissing files r after)
 Explains r scene (Damaged name damage) =
-    WritesNothing scene × LacksOutput scene.target r × IfTold scene.store (λ events. IsBadHeader events r name damage ⊎ IsDamagedPlan events r name damage)
-Explains r scene (PageMissing name number) = WritesNothing scene × LacksOutput scene.target r × IfTold scene.store (λ events. IsMissingPage events r name number)
-Explains r scene StoreFault = WritesNothing scene × LacksOutput scene.target r × Rose scene.store_faults scene.store_faults_after
+    WritesNothing scene × LacksOutput scene.target r
+    × IfFilesTold scene.store (λ files. IsBadHeader files r name damage ⊎ IsDamagedPlan files r name damage)
+Explains r scene (PageMissing name number) =
+    WritesNothing scene × LacksOutput scene.target r
+    × IfFilesTold scene.store (λ files. IsMissingPage files r name number)
+Explains r scene StoreFault =
+    WritesNothing scene × LacksOutput scene.target r × Rose scene.store_faults scene.store_faults_after
 Explains r scene TargetFault =
     (scene.text_after ≡ scene.text) × Rose scene.target_faults scene.target_faults_after
-    × ((scene.target_after ≡ scene.target) ⊎ IfTold scene.store (λ events. MayRestore events r scene))
-Explains r scene SinkFault = Rose scene.sink_faults scene.sink_faults_after × LacksOutput scene.target r × IfTold scene.store (λ events. RestoresUntold events r scene)
+    × ((scene.target_after ≡ scene.target) ⊎ IfFilesTold scene.store (λ files. MayRestore files r scene))
+Explains r scene SinkFault =
+    Rose scene.sink_faults scene.sink_faults_after × LacksOutput scene.target r
+    × IfFilesTold scene.store (λ files. RestoresUntold files r scene)
 Explains r scene Memory = WritesNothing scene
 Explains r scene NotBuilt = ⊥
 Explains r scene (Usage usage) = ⊥
@@ -121,35 +129,39 @@ ForRequest words P = (r : Request) → request_of words ≡ Some r → P r
 
 -- The promise, for each history and sync log to which the store is faithful: what is written is the state that the
 -- log records for the transaction that is asked for, and the line says how many pages it has.
-pub record Restored (events : List Event) (r : Request) (scene : Scene) (history : History) (log : SyncLog) : Type 0 where
+pub record Restored (files : Files) (r : Request) (scene : Scene) (history : History) (log : SyncLog) : Type 0 where
   pub names : List FileName
-  pub are : AreNames events names
+  pub are : AreNames files names
   pub t : ℕ
-  pub asked : IsAsked events names r.target t
+  pub asked : IsAsked files names r.target t
   pub state : State
   pub recorded : recorded_state history log t ≡ Some state
   pub output : GoesOn scene.target scene.target_after (WritesFile r.output (state_bytes state))
   pub line : scene.text_after ≡ gains_text scene.text (restored_text t (length state.pages))
 
 abbrev pub KeepsPromise : Request → Scene → Why → Type 0
-KeepsPromise r scene why = (history : History) (log : SyncLog) (store : List Event) → scene.store ≡ Some store → IsFaithful (files_after store) history log
-    → why ≡ Done → Restored store r scene history log
+KeepsPromise r scene why =
+    (history : History) (log : SyncLog) (store : List Event) → scene.store ≡ Some store
+    → IsFaithful (files_after store) history log → why ≡ Done → Restored (files_after store) r scene history log
 
 -- these bytes are the state that the log records for a transaction that is asked for
-pub record IsRecorded (events : List Event) (r : Request) (history : History) (log : SyncLog) (bytes : List ℕ) : Type 0 where
+pub record IsRecorded (files : Files) (r : Request) (history : History) (log : SyncLog) (bytes : List ℕ) : Type 0 where
   pub names : List FileName
-  pub are : AreNames events names
+  pub are : AreNames files names
   pub t : ℕ
-  pub asked : IsAsked events names r.target t
+  pub asked : IsAsked files names r.target t
   pub state : State
   pub recorded : recorded_state history log t ≡ Some state
   pub same : bytes ≡ state_bytes state
 
 -- Wherever a stop falls: for each history and sync log to which the store is faithful, where a crash left nothing
 -- under the output's name before the call, one at any moment since leaves nothing or the recorded state.
-abbrev pub SurvivesAnyStop : Request → Told → Told → Told → Type 0
-SurvivesAnyStop r store target target_after = (history : History) (log : SyncLog) (kept before after : List Event) → store ≡ Some kept → IsFaithful (files_after kept) history log
-    → target ≡ Some before → target_after ≡ Some after → LeavesNothing r.output before → LeavesAtMost r.output (IsRecorded kept r history log) before after
+abbrev pub SurvivesAnyStop : Request → Scene → Type 0
+SurvivesAnyStop r scene =
+    (history : History) (log : SyncLog) (kept before after : List Event) → scene.store ≡ Some kept
+    → IsFaithful (files_after kept) history log → scene.target ≡ Some before → scene.target_after ≡ Some after
+    → LeavesNothing r.output before
+    → LeavesAtMost r.output (IsRecorded (files_after kept) r history log) before after
 
 -- the count of faults neither rose nor stands at its last value
 abbrev pub NotRisen : ℕ → ℕ → Type 0

@@ -1,8 +1,8 @@
 -- When each answer of a restore comes: where its condition holds, no earlier step refuses and no count of faults rose,
 -- it is the answer, unless memory runs out.
-use Rattle.std.specs.Prelude.{◌≡◌, ℕ, ◌^◌, ◌<◌, ℤ, pos, List, [], true, false, None, Some, slice_index, ◌⊎◌}
+use Rattle.std.specs.Prelude.{◌≡◌, ℕ, ℤ, pos, List, [], true, false, None, Some, ◌⊎◌}
 use Rattle.crash_disk.specs.declared.event.Event.{Event}
-use Rattle.crash_disk.specs.Files.{file_at, size_of, files_after}
+use Rattle.crash_disk.specs.Files.{Files, file_at, size_of, files_after}
 use Rattle.ls_base.specs.History.{History}
 use Rattle.ls_base.specs.SyncLog.{SyncLog}
 use Rattle.ls_words.specs.declared.command.Target.TheVariants.{Moment}
@@ -11,14 +11,15 @@ use Rattle.replica_store.specs.declared.file_name.FileName.{FileName}
 use Rattle.replica_store.specs.Chain.{IsRetained}
 use Rattle.replica_store.specs.Dating.{IsFirstBadHeader}
 use Rattle.replica_store.specs.Faithful.{IsFaithful}
-use Rattle.replica_store.specs.Listing.{AreListed, bytes_under}
+use Rattle.replica_store.specs.Listing.{AreListed}
 use Rattle.ls_base.specs.State.{State}
 use Rattle.restore_apply.specs.Restoring.{Makes, IsFirstDamaged, IsFirstMissing}
 use Rattle.litestream_core.specs.declared.outcome.Why.{Why}
 use Rattle.litestream_core.specs.declared.outcome.Why.TheVariants.{Done, SkippedOutput, SkippedReplica, NoReplica, MissingRange, NoMoment, Damaged, PageMissing, OutputExists, Memory}
 use Rattle.litestream_core.specs.Asked.{AreNames, IsAsked, IsOfMoment, LacksMoment, HasBadHeader, IsPlan, IsMissing}
-use Rattle.litestream_core.specs.Command.{Scene, NotRisen}
+use Rattle.litestream_core.specs.Command.{NotRisen}
 use Rattle.litestream_core.specs.Request.{Request}
+use Rattle.litestream_core.specs.Scene.{Scene}
 
 -- the output's name is free, and neither disk failed
 pub record IsFree (r : Request) (scene : Scene) : Type 0 where
@@ -36,65 +37,97 @@ pub record IsTaken (r : Request) (scene : Scene) (size : ℕ) : Type 0 where
   pub calm : NotRisen scene.target_faults scene.target_faults_after
 
 -- no header that is looked at for its moment is damaged
-abbrev pub HeadersAreGood : List Event → Request → Type 0
-HeadersAreGood store r = (names : List FileName) → AreNames store names → (name : FileName) (damage : Damage) → HasBadHeader store names r.target name damage → ⊥
+abbrev pub HeadersAreGood : Files → Request → Type 0
+HeadersAreGood files r =
+    (names : List FileName) → AreNames files names
+    → (name : FileName) (damage : Damage) → HasBadHeader files names r.target name damage → ⊥
 
 -- a header that is looked at for its moment is damaged
-abbrev pub HasABadHeader : List Event → Type 0
-HasABadHeader store = (names : List FileName) → AreNames store names → (name : FileName) × (damage : Damage) × IsFirstBadHeader store names name damage
+abbrev pub HasABadHeader : Files → Type 0
+HasABadHeader files =
+    (names : List FileName) → AreNames files names
+    → (name : FileName) × (damage : Damage) × IsFirstBadHeader files names name damage
 
 -- a transaction of the asked moment, if a moment is asked for, is retained
-abbrev pub IsInTime : List Event → Request → Type 0
-IsInTime store r = (names : List FileName) → AreNames store names → LacksMoment store names r.target → ⊥
+abbrev pub IsInTime : Files → Request → Type 0
+IsInTime files r = (names : List FileName) → AreNames files names → LacksMoment files names r.target → ⊥
 
 -- no transaction is retained at the moment or before it
-abbrev pub HasNoneOf : List Event → ℤ → Type 0
-HasNoneOf store moment = (names : List FileName) → AreNames store names → (t : ℕ) → IsOfMoment store names moment t → ⊥
+abbrev pub HasNoneOf : Files → ℤ → Type 0
+HasNoneOf files moment =
+    (names : List FileName) → AreNames files names → (t : ℕ) → IsOfMoment files names moment t → ⊥
 
 -- no chain leads to the transaction that is asked for
-abbrev pub HasNoChain : List Event → Request → Type 0
-HasNoChain store r = (names : List FileName) → AreNames store names → (t : ℕ) → IsAsked store names r.target t → IsRetained names t → ⊥
+abbrev pub HasNoChain : Files → Request → Type 0
+HasNoChain files r =
+    (names : List FileName) → AreNames files names → (t : ℕ) → IsAsked files names r.target t → IsRetained names t → ⊥
 
 -- a chain leads to the transaction that is asked for, and nothing refuses before the plan's files are read
-pub record MayBePlanned (store : List Event) (r : Request) : Type 0 where
-  pub some : AreListed store [] → ⊥
-  pub good : HeadersAreGood store r
-  pub in_time : IsInTime store r
-  pub chain : (after : ℕ) → IsMissing store r after → ⊥
+pub record MayBePlanned (files : Files) (r : Request) : Type 0 where
+  pub some : AreListed files [] → ⊥
+  pub good : HeadersAreGood files r
+  pub in_time : IsInTime files r
+  pub chain : (after : ℕ) → IsMissing files r after → ⊥
 
 -- a file of the plan is damaged
-abbrev pub PlanIsDamaged : List Event → Request → Type 0
-PlanIsDamaged store r = (t : ℕ) (plan : List FileName) → IsPlan store r t plan → (name : FileName) × (damage : Damage) × IsFirstDamaged store plan name damage
+abbrev pub PlanIsDamaged : Files → Request → Type 0
+PlanIsDamaged files r =
+    (t : ℕ) (plan : List FileName) → IsPlan files r t plan
+    → (name : FileName) × (damage : Damage) × IsFirstDamaged files plan name damage
 
 -- a page of the plan is missing, and no file of it is damaged
-abbrev pub PlanLacksPage : List Event → Request → Type 0
-PlanLacksPage store r = (t : ℕ) (plan : List FileName) → IsPlan store r t plan → (name : FileName) × (number : ℕ) × IsFirstMissing store plan name number
+abbrev pub PlanLacksPage : Files → Request → Type 0
+PlanLacksPage files r =
+    (t : ℕ) (plan : List FileName) → IsPlan files r t plan
+    → (name : FileName) × (number : ℕ) × IsFirstMissing files plan name number
 
 -- the plan's files make a state
-abbrev pub PlanMakesState : List Event → Request → Type 0
-PlanMakesState store r = (t : ℕ) (plan : List FileName) → IsPlan store r t plan → (state : State) × Makes store plan state
+abbrev pub PlanMakesState : Files → Request → Type 0
+PlanMakesState files r =
+    (t : ℕ) (plan : List FileName) → IsPlan files r t plan → (state : State) × Makes files plan state
 
--- each value of each file is a byte
-abbrev pub HoldsBytes : List Event → Type 0
-HoldsBytes store = (path : List ℕ) (k : ℕ) → slice_index (bytes_under store path) k < 2 ^ 8
+-- this is the answer, unless memory ran out
+abbrev pub Answers : Why → Why → Type 0
+Answers why answer = (why ≡ answer) ⊎ (why ≡ Memory)
+
+-- the answer tells of some damage, unless memory ran out
+abbrev pub AnswersDamaged : Why → Type 0
+AnswersDamaged why = ((name : FileName) × (damage : Damage) × (why ≡ Damaged name damage)) ⊎ (why ≡ Memory)
+
+-- the answer tells of a page that is missing, unless memory ran out
+abbrev pub AnswersPageMissing : Why → Type 0
+AnswersPageMissing why = ((name : FileName) × (number : ℕ) × (why ≡ PageMissing name number)) ⊎ (why ≡ Memory)
+
+-- the answer tells that no chain leads there, unless memory ran out
+abbrev pub AnswersMissingRange : Why → Type 0
+AnswersMissingRange why = ((after : ℕ) × (why ≡ MissingRange after)) ⊎ (why ≡ Memory)
+
+-- the output's name is free, no disk failed, and the store tells: then this holds of its files
+abbrev pub WhereFree : Request → Scene → (Files → Type 0) → Type 0
+WhereFree r scene P = (store : List Event) → scene.store ≡ Some store → IsFree r scene → P (files_after store)
+
+-- there are names
+abbrev pub HasNames : Files → Type 0
+HasNames files = AreListed files [] → ⊥
 
 pub record ComesExactly (r : Request) (scene : Scene) (why : Why) : Type 0 where
-  pub output_exists : (size : ℕ) → IsTaken r scene size → r.if_db_not_exists ≡ false → (why ≡ OutputExists size) ⊎ (why ≡ Memory)
-  pub skipped_output : (size : ℕ) → IsTaken r scene size → r.if_db_not_exists ≡ true → (why ≡ SkippedOutput) ⊎ (why ≡ Memory)
-  pub no_replica : (store : List Event) → scene.store ≡ Some store → IsFree r scene → AreListed store [] → r.if_replica_exists ≡ false → (why ≡ NoReplica) ⊎ (why ≡ Memory)
-  pub skipped_replica : (store : List Event) → scene.store ≡ Some store → IsFree r scene → AreListed store [] → r.if_replica_exists ≡ true → (why ≡ SkippedReplica) ⊎ (why ≡ Memory)
-  pub no_moment : (store : List Event) (moment : ℤ) → scene.store ≡ Some store → IsFree r scene → (AreListed store [] → ⊥) → r.target ≡ Moment moment → HeadersAreGood store r → HasNoneOf store moment
-      → (why ≡ NoMoment) ⊎ (why ≡ Memory)
-  pub bad_header : (store : List Event) (ms : ℕ) → scene.store ≡ Some store → IsFree r scene → (AreListed store [] → ⊥) → r.target ≡ Moment (pos ms) → HasABadHeader store
-      → ((name : FileName) × (damage : Damage) × (why ≡ Damaged name damage)) ⊎ (why ≡ Memory)
-  pub missing_range : (store : List Event) → scene.store ≡ Some store → IsFree r scene → (AreListed store [] → ⊥) → HeadersAreGood store r → IsInTime store r → HasNoChain store r
-      → ((after : ℕ) × (why ≡ MissingRange after)) ⊎ (why ≡ Memory)
-  pub damaged : (store : List Event) → scene.store ≡ Some store → IsFree r scene → MayBePlanned store r → PlanIsDamaged store r
-      → ((name : FileName) × (damage : Damage) × (why ≡ Damaged name damage)) ⊎ (why ≡ Memory)
-  pub page_missing : (store : List Event) → scene.store ≡ Some store → IsFree r scene → MayBePlanned store r → PlanLacksPage store r
-      → ((name : FileName) × (number : ℕ) × (why ≡ PageMissing name number)) ⊎ (why ≡ Memory)
-  pub done : (store : List Event) → scene.store ≡ Some store → IsFree r scene → MayBePlanned store r → PlanMakesState store r → NotRisen scene.sink_faults scene.sink_faults_after
-      → (why ≡ Done) ⊎ (why ≡ Memory)
+  pub output_exists : (size : ℕ) → IsTaken r scene size → r.if_db_not_exists ≡ false → Answers why (OutputExists size)
+  pub skipped_output : (size : ℕ) → IsTaken r scene size → r.if_db_not_exists ≡ true
+      → Answers why SkippedOutput
+  pub no_replica : WhereFree r scene (λ files. AreListed files [] → r.if_replica_exists ≡ false → Answers why NoReplica)
+  pub skipped_replica : WhereFree r scene (λ files. AreListed files [] → r.if_replica_exists ≡ true
+      → Answers why SkippedReplica)
+  pub no_moment : WhereFree r scene (λ files. (moment : ℤ) → HasNames files → r.target ≡ Moment moment
+      → HeadersAreGood files r → HasNoneOf files moment → Answers why NoMoment)
+  pub bad_header : WhereFree r scene (λ files. (ms : ℕ) → HasNames files → r.target ≡ Moment (pos ms)
+      → HasABadHeader files → AnswersDamaged why)
+  pub missing_range : WhereFree r scene (λ files. HasNames files → HeadersAreGood files r → IsInTime files r
+      → HasNoChain files r → AnswersMissingRange why)
+  pub damaged : WhereFree r scene (λ files. MayBePlanned files r → PlanIsDamaged files r → AnswersDamaged why)
+  pub page_missing : WhereFree r scene (λ files. MayBePlanned files r → PlanLacksPage files r
+      → AnswersPageMissing why)
+  pub done : WhereFree r scene (λ files. MayBePlanned files r → PlanMakesState files r
+      → NotRisen scene.sink_faults scene.sink_faults_after → Answers why Done)
   -- a store that tells the truth is never damaged and lacks no page
-  pub faithful : (store : List Event) (history : History) (log : SyncLog) → scene.store ≡ Some store → IsFaithful (files_after store) history log → HoldsBytes store → IsFree r scene → MayBePlanned store r
-      → NotRisen scene.sink_faults scene.sink_faults_after → (why ≡ Done) ⊎ (why ≡ Memory)
+  pub faithful : WhereFree r scene (λ files. (history : History) (log : SyncLog) → IsFaithful files history log
+      → MayBePlanned files r → NotRisen scene.sink_faults scene.sink_faults_after → Answers why Done)

@@ -1,3 +1,4 @@
+pub mod Scene
 pub mod Outcome
 pub mod Request
 pub mod RequestView
@@ -6,3 +7,4 @@ pub mod Asked
 pub mod Command
 pub mod Exact
 pub mod Preparing
+pub mod Laws

@@ -2,7 +2,7 @@
 use Rattle.std.specs.Prelude.{◌≡◌, ◌≢◌, ℕ, ℤ, List, [], true, false, Some, IsSome, ⊤, ◌⊎◌}
 use Rattle.crash_disk.specs.declared.fault.NamesFault.{NamesFault}
 use Rattle.crash_disk.specs.declared.fault.NamesFault.TheVariants.{Disk, Memory as no_memory}
-use Rattle.crash_disk.specs.Fault.{Rose}
+use Rattle.ls_base.specs.Fault.{Rose}
 use Rattle.crash_disk.specs.Told.{Told, IfTold}
 use Rattle.crash_disk.specs.Files.{file_at, size_of}
 use Rattle.replica_store.specs.declared.error.StoreError.{StoreError}
@@ -16,7 +16,7 @@ use Rattle.restore_plan.specs.declared.chain.PlanFault.TheVariants as plan
 use Rattle.litestream_core.specs.declared.outcome.Why.{Why}
 use Rattle.litestream_core.specs.declared.outcome.Why.TheVariants.{Done, SkippedOutput, SkippedReplica, NotBuilt, Usage, NoReplica, MissingRange, NoMoment, Damaged, PageMissing, OutputExists, StoreFault, TargetFault, SinkFault, Memory}
 use Rattle.litestream_core.specs.Asked.{IsMissing, IsBefore, IsBadHeader, IsTooEarly, HasBadHeaderAt}
-use Rattle.litestream_core.specs.Command.{LacksOutput}
+use Rattle.litestream_core.specs.Command.{LacksOutput, IfFilesTold}
 use Rattle.litestream_core.specs.Request.{Request}
 
 -- the refusal that a fault of an `attach` becomes
@@ -45,8 +45,10 @@ why_of_fault fault.Memory = Memory
 
 -- why the output may not be written
 abbrev pub ExplainsOutput : Request → Told → ℕ → ℕ → Why → Type 0
-ExplainsOutput r target before now SkippedOutput = (r.if_db_not_exists ≡ true) × IfTold target (λ events. IsSome (file_at events r.output))
-ExplainsOutput r target before now (OutputExists size) = (r.if_db_not_exists ≡ false) × IfTold target (λ events. size_of events r.output ≡ Some size)
+ExplainsOutput r target before now SkippedOutput =
+    (r.if_db_not_exists ≡ true) × IfTold target (λ events. IsSome (file_at events r.output))
+ExplainsOutput r target before now (OutputExists size) =
+    (r.if_db_not_exists ≡ false) × IfTold target (λ events. size_of events r.output ≡ Some size)
 ExplainsOutput r target before now TargetFault = Rose before now
 ExplainsOutput r target before now Memory = ⊤
 ExplainsOutput r target before now Done = ⊥
@@ -63,11 +65,13 @@ ExplainsOutput r target before now SinkFault = ⊥
 
 -- why the replica gives no plan
 abbrev pub ExplainsReading : Request → Told → ℕ → ℕ → Why → Type 0
-ExplainsReading r store before now SkippedReplica = (r.if_replica_exists ≡ true) × IfTold store (λ events. AreListed events [])
-ExplainsReading r store before now NoReplica = (r.if_replica_exists ≡ false) × IfTold store (λ events. AreListed events [])
-ExplainsReading r store before now NoMoment = IfTold store (λ events. IsBefore events r)
-ExplainsReading r store before now (MissingRange after) = IfTold store (λ events. IsMissing events r after)
-ExplainsReading r store before now (Damaged name damage) = IfTold store (λ events. IsBadHeader events r name damage)
+ExplainsReading r store before now SkippedReplica =
+    (r.if_replica_exists ≡ true) × IfFilesTold store (λ files. AreListed files [])
+ExplainsReading r store before now NoReplica =
+    (r.if_replica_exists ≡ false) × IfFilesTold store (λ files. AreListed files [])
+ExplainsReading r store before now NoMoment = IfFilesTold store (λ files. IsBefore files r)
+ExplainsReading r store before now (MissingRange after) = IfFilesTold store (λ files. IsMissing files r after)
+ExplainsReading r store before now (Damaged name damage) = IfFilesTold store (λ files. IsBadHeader files r name damage)
 ExplainsReading r store before now StoreFault = Rose before now
 ExplainsReading r store before now Memory = ⊤
 ExplainsReading r store before now Done = ⊥
@@ -81,8 +85,9 @@ ExplainsReading r store before now SinkFault = ⊥
 
 -- why there is no transaction of a moment
 abbrev pub ExplainsMoment : Told → ℕ → ℕ → List FileName → ℤ → Why → Type 0
-ExplainsMoment store before now names moment NoMoment = IfTold store (λ events. IsTooEarly events names moment)
-ExplainsMoment store before now names moment (Damaged name damage) = IfTold store (λ events. HasBadHeaderAt events names moment name damage)
+ExplainsMoment store before now names moment NoMoment = IfFilesTold store (λ files. IsTooEarly files names moment)
+ExplainsMoment store before now names moment (Damaged name damage) =
+    IfFilesTold store (λ files. HasBadHeaderAt files names moment name damage)
 ExplainsMoment store before now names moment StoreFault = Rose before now
 ExplainsMoment store before now names moment Memory = ⊤
 ExplainsMoment store before now names moment Done = ⊥
@@ -100,4 +105,5 @@ ExplainsMoment store before now names moment SinkFault = ⊥
 -- why a restore didn't come so far that it could write
 abbrev pub ExplainsPrepare : Request → Told → ℕ → ℕ → Told → ℕ → ℕ → Why → Type 0
 ExplainsPrepare r store store_before store_now target target_before target_now why =
-    ExplainsOutput r target target_before target_now why ⊎ (LacksOutput target r × ExplainsReading r store store_before store_now why)
+    ExplainsOutput r target target_before target_now why
+    ⊎ (LacksOutput target r × ExplainsReading r store store_before store_now why)

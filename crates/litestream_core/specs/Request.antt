@@ -18,7 +18,8 @@ pub record Request : Type 0 where
 
 -- the restore that a command is, if it is one
 abbrev pub request_in : Command → Option Request
-request_in (Restore output replica target if_db_not_exists if_replica_exists) = let at = placed output (cut_at_last_slash output) in
+request_in (Restore output replica target if_db_not_exists if_replica_exists) =
+    let at = placed output (cut_at_last_slash output) in
     Some (record {
       folder = at.folder;
       output = at.name;

@@ -1,9 +1,9 @@
 //! Which transaction a restore asks for.
 
 ghost use Rattle.std.specs.Prelude.{◌≡◌, ◌≢◌, ◌≤◌, [], IfOk, IfErr};
-ghost use Rattle.crash_disk.specs.Told.{IfTold};
 ghost use Rattle.replica_store.specs.Chain.{IsListOrdered};
 ghost use Rattle.litestream_core.specs.Asked.{AreNames, IsNewest, IsOfMoment, IsAsked};
+ghost use Rattle.litestream_core.specs.Command.{IfFilesTold};
 ghost use Rattle.litestream_core.specs.Preparing.{why_of_error, ExplainsMoment, ExplainsReading};
 ghost use Rattle.litestream_core.specs.RequestView.{as_request};
 
@@ -49,7 +49,7 @@ fn at_moment<S: Disk>(
     moment: i64,
 ) -> Result<Txid, Why>
     requires in_order { IsListOrdered names.now }
-    ensures of_moment { IfOk result (λ t. IfTold (S.told store.old) (λ events. IsOfMoment events names.now moment t)) }
+    ensures of_moment { IfOk result (λ t. IfFilesTold (S.told store.old) (λ files. IsOfMoment files names.now moment t)) }
     ensures explained { IfErr result (ExplainsMoment (S.told store.old) (S.fault_count store.old) (S.fault_count store.new) names.now moment) }
     ensures unchanged { S.told store.new ≡ S.told store.old }
     ensures same_folder { S.folder store.new ≡ S.folder store.old }
@@ -74,8 +74,8 @@ pub fn asked<S: Disk>(
 ) -> Result<Txid, Why>
     requires some { names.now ≢ [] }
     requires in_order { IsListOrdered names.now }
-    requires names { IfTold (S.told store.old) (λ events. AreNames events names.now) }
-    ensures asked { IfOk result (λ t. IfTold (S.told store.old) (λ events. IsAsked events names.now request.now.target t)) }
+    requires names { IfFilesTold (S.told store.old) (λ files. AreNames files names.now) }
+    ensures asked { IfOk result (λ t. IfFilesTold (S.told store.old) (λ files. IsAsked files names.now request.now.target t)) }
     ensures explained { IfErr result (ExplainsReading (as_request request.now) (S.told store.old) (S.fault_count store.old) (S.fault_count store.new)) }
     ensures unchanged { S.told store.new ≡ S.told store.old }
     ensures same_folder { S.folder store.new ≡ S.folder store.old }

@@ -12,7 +12,9 @@ ghost use Rattle.litestream_core.specs.Preparing.{why_of_fault};
 ghost use Rattle.litestream_core.specs.Outcome.{status_of};
 ghost use Rattle.litestream_core.specs.Request.{request_in, request_of};
 ghost use Rattle.litestream_core.specs.RequestView.{as_request};
+ghost use Rattle.litestream_core.specs.Scene.{scene_of, FaultsStay};
 
+use crate::law::laws;
 use crate::line::restored_line;
 use crate::outcome::{Outcome, Why};
 use crate::prepare::prepare;
@@ -41,22 +43,11 @@ fn restore<S: Disk, T: Disk, O: Out>(
     target: &mut T,
     out: &mut O,
 ) -> Result<(), Why>
-    ensures explained { Explains (as_request request.now) (record {
-      store = S.told store.old;
-      target = T.told target.old;
-      target_after = T.told target.new;
-      text = O.text out.old;
-      text_after = O.text out.new;
-      store_faults = S.fault_count store.old;
-      store_faults_after = S.fault_count store.new;
-      target_faults = T.fault_count target.old;
-      target_faults_after = T.fault_count target.new;
-      sink_faults = O.fault_count out.old;
-      sink_faults_after = O.fault_count out.new;
-    }) (why_of result) }
+    ensures explained { Explains (as_request request.now) (scene_of S.Disk T.Disk O.Out (as_request request.now) store.old store.new target.old target.new out.old out.new) (why_of result) }
     ensures not_done { IfErr result (λ why. why ≡ Done → ⊥) }
     ensures attached { OnOk result (AreAttached (as_request request.now) (S.folder store.new) (T.folder target.new)) }
-    ensures store_unchanged { S.told store.new ≡ S.told store.old }
+    ensures store_unchanged { S.content store.new request.now.replica.now ≡ S.content store.old request.now.replica.now }
+    ensures later { FaultsStay (scene_of S.Disk T.Disk O.Out (as_request request.now) store.old store.new target.old target.new out.old out.new) }
 {
     let ready = prepare(alloc, request, store, target)?;
     let plan = ready.plan.as_slice();
@@ -102,54 +93,19 @@ pub fn litestream<S: Disk, T: Disk, O: Out>(
     ensures usage { (usage : Usage) → result.why ≡ of_usage usage → command_of words.now ≡ Err usage }
     ensures bad_words { (usage : Usage) → command_of words.now ≡ Err usage → (result.why ≡ of_usage usage) ⊎ (result.why ≡ Memory) }
     ensures not_built { (command : Command) → command_of words.now ≡ Ok command → request_in command ≡ None → (result.why ≡ NotBuilt) ⊎ (result.why ≡ Memory) }
-    ensures no_request { request_of words.now ≡ None → (T.told target.new ≡ T.told target.old) × (O.text out.new ≡ O.text out.old) }
+    ensures no_request { request_of words.now ≡ None → (store.new ≡ store.old) × (target.new ≡ target.old) × (out.new ≡ out.old) }
     ensures status { result.status ≡ status_of result.why }
 
     // What each answer means, when it comes, and what is promised of it.
-    ensures explained { ForRequest words.now (λ r. Explains r (record {
-      store = S.told store.old;
-      target = T.told target.old;
-      target_after = T.told target.new;
-      text = O.text out.old;
-      text_after = O.text out.new;
-      store_faults = S.fault_count store.old;
-      store_faults_after = S.fault_count store.new;
-      target_faults = T.fault_count target.old;
-      target_faults_after = T.fault_count target.new;
-      sink_faults = O.fault_count out.old;
-      sink_faults_after = O.fault_count out.new;
-    }) result.why) }
-    ensures exact { ForRequest words.now (λ r. ComesExactly r (record {
-      store = S.told store.old;
-      target = T.told target.old;
-      target_after = T.told target.new;
-      text = O.text out.old;
-      text_after = O.text out.new;
-      store_faults = S.fault_count store.old;
-      store_faults_after = S.fault_count store.new;
-      target_faults = T.fault_count target.old;
-      target_faults_after = T.fault_count target.new;
-      sink_faults = O.fault_count out.old;
-      sink_faults_after = O.fault_count out.new;
-    }) result.why) }
-    ensures promise { ForRequest words.now (λ r. KeepsPromise r (record {
-      store = S.told store.old;
-      target = T.told target.old;
-      target_after = T.told target.new;
-      text = O.text out.old;
-      text_after = O.text out.new;
-      store_faults = S.fault_count store.old;
-      store_faults_after = S.fault_count store.new;
-      target_faults = T.fault_count target.old;
-      target_faults_after = T.fault_count target.new;
-      sink_faults = O.fault_count out.old;
-      sink_faults_after = O.fault_count out.new;
-    }) result.why) }
+    ensures explained { ForRequest words.now (λ r. Explains r (scene_of S.Disk T.Disk O.Out r store.old store.new target.old target.new out.old out.new) result.why) }
+    ensures exact { ForRequest words.now (λ r. ComesExactly r (scene_of S.Disk T.Disk O.Out r store.old store.new target.old target.new out.old out.new) result.why) }
+    ensures promise { ForRequest words.now (λ r. KeepsPromise r (scene_of S.Disk T.Disk O.Out r store.old store.new target.old target.new out.old out.new) result.why) }
     ensures attached { ForRequest words.now (λ r. result.why ≡ Done → AreAttached r (S.folder store.new) (T.folder target.new)) }
-    ensures at_any_stop { ForRequest words.now (λ r. SurvivesAnyStop r (S.told store.old) (T.told target.old) (T.told target.new)) }
+    ensures at_any_stop { ForRequest words.now (λ r. SurvivesAnyStop r (scene_of S.Disk T.Disk O.Out r store.old store.new target.old target.new out.old out.new)) }
 
-    ensures store_unchanged { S.told store.new ≡ S.told store.old }
-    ensures err_unchanged { O.text err.new ≡ O.text err.old }
+    ensures store_unchanged { ForRequest words.now (λ r. S.content store.new r.replica ≡ S.content store.old r.replica) }
+    ensures err_unchanged { err.new ≡ err.old }
+    ensures faults { ForRequest words.now (λ r. FaultsStay (scene_of S.Disk T.Disk O.Out r store.old store.new target.old target.new out.old out.new)) }
 {
     let command = match read_words(alloc, words) {
         Ok(command) => command,
@@ -159,6 +115,7 @@ pub fn litestream<S: Disk, T: Disk, O: Out>(
     let Some(request) = request_in(&command) else {
         return Outcome::of(Why::NotBuilt);
     };
+    laws();
     let ended = restore(alloc, &request, store, target, out);
     Outcome::of(cause_of(ended))
 }

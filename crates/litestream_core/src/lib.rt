@@ -13,6 +13,7 @@
 
 mod asked;
 mod command;
+mod law;
 mod line;
 mod outcome;
 mod prepare;

@@ -1,7 +1,7 @@
 //! Real files as a disk.
 
-ghost use Rattle.std.specs.Prelude.{◌≡◌, None, Some, option_map, string_bytes, IfOk, IsErr, OnOk, OnErr};
-ghost use Rattle.crash_disk.specs.Fault.{HasCause};
+ghost use Rattle.std.specs.Prelude.{◌≡◌, None, Some, option_map, string_bytes, IfOk, IsErr, OnOk, OnErr, refl};
+ghost use Rattle.ls_base.specs.Fault.{HasCause};
 
 use crate::folder_files::FolderFiles;
 use crash_disk::{Disk, DiskFault, NameList, NamesFault};
@@ -55,6 +55,10 @@ impl Disk for FileDisk {
     ghost folder = { λ disk. option_map string_bytes disk.folder };
 
     ghost fault_count = { λ disk. disk.faults };
+
+    ghost content = { λ _ _. None };
+
+    ghost given = { λ _. None };
 
     fn attach(&mut self, alloc: Global, path: &str) -> Result<(), NamesFault> {
         let path = String::from_str(alloc, path)?;
@@ -123,4 +127,8 @@ impl Disk for FileDisk {
     fn faults(&self) -> u64 {
         self.faults
     }
+
+    ghost stands = { λ _ _ _. refl };
+
+    ghost counts = { λ _. refl };
 }

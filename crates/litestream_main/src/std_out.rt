@@ -1,7 +1,7 @@
 //! The standard streams as outputs.
 
 ghost use Rattle.std.specs.Prelude.{◌≡◌, ◌≤◌, None, length, IfOk};
-ghost use Rattle.crash_disk.specs.Fault.{HasCause};
+ghost use Rattle.ls_base.specs.Fault.{HasCause};
 
 use crash_disk::{Out, OutFault};
 use std::io::{self, ErrorKind, Stderr, Stdout};
