@@ -5,3 +5,4 @@ pub mod CommitLemmas
 pub mod StillLegalLemmas
 pub mod Theorems
 pub mod MoveLemmas
+pub mod CopyLemmas

@@ -24,7 +24,7 @@ or_or : (a b c : Option (List ℕ)) → option_or (option_or a b) c ≡ option_o
 or_or None b c = refl
 or_or (Some x) b c = refl
 
-frames_page-append : (p : ℕ) (xs ys : List (List ℕ)) → frames_page p (xs ++ ys) ≡ option_or (frames_page p ys) (frames_page p xs)
+pub frames_page-append : (p : ℕ) (xs ys : List (List ℕ)) → frames_page p (xs ++ ys) ≡ option_or (frames_page p ys) (frames_page p xs)
 frames_page-append p [] ys = or_none (frames_page p ys)
   where
     or_none : (o : Option (List ℕ)) → o ≡ option_or o None
@@ -44,7 +44,7 @@ module _ (h : WalHeader) (db : List ℕ) where
   view_by frames commit = record { page_size = Some h.size; pages = map (page_by frames) (range_with_len 1 commit) }
 
   -- those of the frames up to the mark of the one behind `stand`
-  frames_here : (stand rest : List (List ℕ)) (frame : List ℕ) → frames_to h (stand ++ frame ∷ rest) (mark_of h stand frame) ≡ stand ++ frame ∷ []
+  pub frames_here : (stand rest : List (List ℕ)) (frame : List ℕ) → frames_to h (stand ++ frame ∷ rest) (mark_of h stand frame) ≡ stand ++ frame ∷ []
   frames_here stand rest frame =
       let front = stand ++ frame ∷ [] in
       let count : 32 + length front * frame_length h - 32 ≡ length front * frame_length h = omega arith in

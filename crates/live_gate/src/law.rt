@@ -1,7 +1,7 @@
 //! The laws of a live database that moves.
 
 ghost use Rattle.live_gate.specs.LegalLaws.{MarksAreRecorded, StillIsLegal};
-ghost use Rattle.live_gate.specs.Moves.{CommitsAreSteps, RestartsAreSteps, PassesKeepLegal};
+ghost use Rattle.live_gate.specs.Moves.{CommitsAreSteps, CopyingIsAStep, RestartsAreSteps, PassesKeepLegal};
 ghost use Rattle.live_gate.specs.StepLaws.{StepsStay, StepsJoin, MovesStay, MovesJoin};
 
 /// No move is a step of the writer, and two steps are one. Does nothing: its clauses hold of all live
@@ -20,11 +20,12 @@ pub fn legal_laws()
     ensures still { StillIsLegal }
 {}
 
-/// Each move is a step of the writer: a commit more, also while the gate is held; a restart or a cut, by
-/// which the log ceases to have a commit. A pass keeps a legal database legal. Does nothing: its clauses
+/// Each move is a step of the writer: a commit more, also while the gate is held; copying into
+/// the database file, up to the held mark; a restart or a cut, by which the log ceases to have a commit. A pass keeps a legal database legal. Does nothing: its clauses
 /// hold of all live databases.
 pub fn move_laws()
     ensures commits { CommitsAreSteps }
+    ensures copying { CopyingIsAStep }
     ensures restarts { RestartsAreSteps }
     ensures passes { PassesKeepLegal }
 {}
