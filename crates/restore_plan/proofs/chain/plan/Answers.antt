@@ -1,5 +1,4 @@
-use Rattle.std.proofs.Common.{arith, ◌≡◌, ℕ, List, ◌++◌, ◌∷◌, [], ◌∙◌, sym, ap, subst}
-use Rattle.replica_store.specs.declared.file_name.FileName.{FileName}
+use Rattle.std.proofs.Common.{arith, ◌≡◌, ◌++◌, ◌∷◌, [], ◌∙◌, sym, ap, subst}
 use Rattle.replica_store.specs.Chain.{LeadsTo}
 use Rattle.restore_plan.specs.Retained.{IsGreatestRetainedBelow}
 use Rattle.restore_plan.specs.ChosenChain.{IsChosenBetween}

@@ -1,4 +1,4 @@
-use Rattle.std.proofs.Common.{◌≡◌, ℕ, ◌-◌, ◌^◌, ◌≤◌, IfSome, List}
+use Rattle.std.proofs.Common.{ℕ, ◌-◌, ◌^◌, ◌≤◌, IfSome, List}
 use Rattle.std.specs.Prelude.{IsSomeAnd}
 use Rattle.replica_store.specs.declared.file_name.FileName.{FileName}
 use Rattle.replica_store.specs.Chain.{LeadsTo}

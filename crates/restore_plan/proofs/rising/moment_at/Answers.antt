@@ -1,14 +1,8 @@
-use Rattle.std.proofs.Common.{ℕ, List, ◌≡◌, ◌≢◌, ◌-◌, ◌+◌, ◌<◌, ◌≤◌, inl, inr, length, get_or, refl, sym, ap, ◌∙◌, subst, arith}
+use Rattle.std.proofs.Common.{ℕ, ◌≡◌, ◌-◌, ◌+◌, ◌<◌, ◌≤◌, inl, inr, get_or, refl, sym, ap, ◌∙◌, arith}
 use Rattle.std.proofs.lemmas.Bool.{cases_lt}
-use Rattle.std.proofs.lemmas.List.{length-map}
-use Rattle.std.specs.List.{Contains}
-use Rattle.replica_store.specs.declared.dated_names.Dated.{Dated}
-use Rattle.replica_store.specs.declared.file_name.FileName.{FileName}
-use Rattle.replica_store.specs.Chain.{IsListOrdered, names_of}
 use Rattle.restore_plan.specs.Run.{levels}
-use Rattle.restore_plan.specs.Walk.{AreWalks, StandsAtFirst}
 use Rattle.restore_plan.specs.declared.walk.Walk.{Walk}
-use Rattle.restore_plan.proofs.WalkLemmas.{walks_set, moment_first, moment_none, same_length, first_of_all, none_of_all}
+use Rattle.restore_plan.proofs.WalkLemmas.{walks_set, moment_first, same_length, first_of_all, none_of_all}
 use Rattle.restore_plan.proofs.rising.moment_at.Goals as goal
 
 abbrev blank : Walk

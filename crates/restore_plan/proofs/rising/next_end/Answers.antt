@@ -1,6 +1,5 @@
 use Rattle.std.proofs.Common.{ℕ, ◌≡◌, ◌+◌, ◌<◌, ◌≤◌, inl, inr, get_or, sym, ap, ◌∙◌, arith}
 use Rattle.std.proofs.lemmas.Bool.{cases_lt}
-use Rattle.replica_store.specs.declared.file_name.FileName.{FileName}
 use Rattle.restore_plan.specs.Run.{levels}
 use Rattle.restore_plan.specs.Walk.{IsEndOfNext}
 use Rattle.restore_plan.specs.declared.walk.Walk.{Walk}
