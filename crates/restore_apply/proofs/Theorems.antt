@@ -62,7 +62,7 @@ module _ (files : Files) (history : History) (log : SyncLog) (faithful : IsFaith
   has_file name has =
       let path = path_of name in
       let there = ((listed.each path).0 (path_in names name has)).1 in
-      let own = faithful.each name.level name.min name.max (bytes_under files path) (valid_in names name listed.valid has) (named_there (get files path) there) in
+      let own = faithful.each name (bytes_under files path) (valid_in names name listed.valid has) (named_there (get files path) there) in
       let same = same_change (bytes_under files path) own.header own.change own.file.file in (
         file_made own.header own.change,
         record {

@@ -41,7 +41,8 @@ ExplainsFile bytes name wanted Memory = ⊤
 -- why the file of a name could not be read
 abbrev pub ExplainsRead : Told → ℕ → ℕ → FileName → Option ℕ → RestoreFault → Type 0
 ExplainsRead told before now name wanted (Damaged other damage) =
-    (other ≡ name) × IfTold told (λ events. IsDamageUnder (bytes_under (files_after events) (path_of name)) name wanted damage)
+    (other ≡ name)
+    × IfTold told (λ events. IsDamageUnder (bytes_under (files_after events) (path_of name)) name wanted damage)
 ExplainsRead told before now name wanted (PageMissing other number) = ⊥
 ExplainsRead told before now name wanted (Store fault) = Rose before now
 ExplainsRead told before now name wanted (Target fault) = ⊥
@@ -49,7 +50,8 @@ ExplainsRead told before now name wanted Memory = ⊤
 
 -- why the files of a plan could not be read
 abbrev pub ExplainsReads : Told → ℕ → ℕ → List FileName → RestoreFault → Type 0
-ExplainsReads told before now plan (Damaged name damage) = IfTold told (λ events. IsFirstDamaged (files_after events) plan name damage)
+ExplainsReads told before now plan (Damaged name damage) =
+    IfTold told (λ events. IsFirstDamaged (files_after events) plan name damage)
 ExplainsReads told before now plan (PageMissing name number) = ⊥
 ExplainsReads told before now plan (Store fault) = Rose before now
 ExplainsReads told before now plan (Target fault) = ⊥

@@ -13,13 +13,14 @@ use Rattle.replica_store.specs.Listing.{AreListed}
 use Rattle.restore_apply.specs.Restoring.{ArePlanFiles, Makes, IsFirstDamaged, IsFirstMissing}
 
 -- the plan makes the state that is recorded for the transaction
-pub record MakesRecorded (files : Files) (history : History) (log : SyncLog) (t : ℕ) (plan : List FileName) : Type 0 where
+pub record MakesRecorded (files : Files) (history : History) (log : SyncLog) (t : ℕ)
+    (plan : List FileName) : Type 0 where
   pub state : State
   pub makes : Makes files plan state
   pub recorded : recorded_state history log t ≡ Some state
 
--- Where the files tell the truth, a chain of their names of which only the first begins with the first transaction makes
--- the recorded state.
+-- Where the files tell the truth, a chain of their names of which only the first begins with the first transaction
+-- makes the recorded state.
 abbrev pub FaithfulChainsMakeRecorded : Type 0
 FaithfulChainsMakeRecorded =
     (files : Files) (history : History) (log : SyncLog) (names : List FileName) (t : ℕ) (chain : List FileName)

@@ -60,7 +60,8 @@ pub record IsFirstMissing (files : Files) (plan : List FileName) (name : FileNam
   pub lacks : LacksPage state (change_of file) number
 
 -- The state that the plan makes was written under the name; so many pages, as of the last transaction of the plan.
-pub record Restores (files : Files) (plan : List FileName) (name : List ℕ) (target target_after : Told) (restored : Restored) : Type 0 where
+pub record Restores (files : Files) (plan : List FileName) (name : List ℕ) (target target_after : Told)
+    (restored : Restored) : Type 0 where
   pub state : State
   pub makes : Makes files plan state
   pub output : GoesOn target target_after (WritesFile name (state_bytes state))
@@ -78,12 +79,14 @@ pub record MayRestore (files : Files) (plan : List FileName) (name : List ℕ) (
 
 -- what a fault means
 abbrev pub ExplainsRestore : Told → List FileName → List ℕ → Told → Told → ℕ → ℕ → ℕ → ℕ → RestoreFault → Type 0
-ExplainsRestore store plan name target target_after store_before store_now target_before target_now (Damaged file damage) =
-    (target_after ≡ target) × IfTold store (λ events. IsFirstDamaged (files_after events) plan file damage)
-ExplainsRestore store plan name target target_after store_before store_now target_before target_now (PageMissing file number) =
-    (target_after ≡ target) × IfTold store (λ events. IsFirstMissing (files_after events) plan file number)
-ExplainsRestore store plan name target target_after store_before store_now target_before target_now (Store fault) =
-    (target_after ≡ target) × Rose store_before store_now
-ExplainsRestore store plan name target target_after store_before store_now target_before target_now (Target fault) =
-    Rose target_before target_now × IfTold store (λ events. MayRestore (files_after events) plan name target target_after)
-ExplainsRestore store plan name target target_after store_before store_now target_before target_now Memory = target_after ≡ target
+ExplainsRestore store plan name target after store_before store_now before now (Damaged file damage) =
+    (after ≡ target) × IfTold store (λ events. IsFirstDamaged (files_after events) plan file damage)
+ExplainsRestore store plan name target after store_before store_now before now (PageMissing file number) =
+    (after ≡ target) × IfTold store (λ events. IsFirstMissing (files_after events) plan file number)
+ExplainsRestore store plan name target after store_before store_now before now (Store fault) =
+    (after ≡ target) × Rose store_before store_now
+ExplainsRestore store plan name target after store_before store_now before now (Target fault) =
+    Rose before now
+    × IfTold store (λ events. MayRestore (files_after events) plan name target after)
+ExplainsRestore store plan name target after store_before store_now before now Memory =
+    after ≡ target

@@ -23,7 +23,8 @@ sourced_page files sources at = option_and_then (page_in files (at + 1)) (slice_
 
 -- all these pages, one after another
 abbrev pub sourced_bytes : List LtxFile → List ℕ → List ℕ
-sourced_bytes files sources = concat (map (λ at. unwrap_or (sourced_page files sources at) []) (range_with_len 0 (length sources)))
+sourced_bytes files sources =
+    concat (map (λ at. unwrap_or (sourced_page files sources at) []) (range_with_len 0 (length sources)))
 
 -- the pages of the state are those that the sources tell
 pub record AreSourcesOf (files : List LtxFile) (sources : List ℕ) (s : State) : Type 0 where
@@ -86,4 +87,5 @@ pub record HaveOneSize (files : List LtxFile) : Type 0 where
 
 -- each page that the sources tell is there, none larger than the largest page size
 pub record HoldsEachPage (files : List LtxFile) (sources : List ℕ) : Type 0 where
-  pub there : (at : ℕ) → at < length sources → (page : List ℕ) × (sourced_page files sources at ≡ Some page) × (length page ≤ 65536)
+  pub there : (at : ℕ) → at < length sources
+      → (page : List ℕ) × (sourced_page files sources at ≡ Some page) × (length page ≤ 65536)

@@ -51,7 +51,8 @@ pub record Names (temporary name bytes : List ℕ) (old new : List Event) : Type
 -- what may have been done of that
 pub data MayName (temporary name bytes : List ℕ) (old new : List Event) : Type 0 where
   Began : MayBegin temporary old new → MayName temporary name bytes old new
-  Synchronized : (filled : List Event) → Fills temporary bytes old filled → new ≡ Synced temporary ∷ filled → MayName temporary name bytes old new
+  Synchronized : (filled : List Event) → Fills temporary bytes old filled → new ≡ Synced temporary ∷ filled
+      → MayName temporary name bytes old new
   Named : Names temporary name bytes old new → MayName temporary name bytes old new
 
 -- the file got its name, and the names were synced
@@ -63,7 +64,8 @@ pub record Settles (name bytes : List ℕ) (old new : List Event) : Type 0 where
 -- what may have been done of that; where it failed, the temporary file may have been removed
 pub data MaySettle (name bytes : List ℕ) (old new : List Event) : Type 0 where
   Left : MayName (temporary_name name) name bytes old new → MaySettle name bytes old new
-  Cleared : (left : List Event) → MayName (temporary_name name) name bytes old left → new ≡ Removed (temporary_name name) ∷ left → MaySettle name bytes old new
+  Cleared : (left : List Event) → MayName (temporary_name name) name bytes old left → new ≡ Removed (temporary_name name) ∷ left
+      → MaySettle name bytes old new
 
 -- The file has these bytes, the temporary file is absent, and each other file is as it was. Where a crash left
 -- nothing under the name before, one at any moment since leaves nothing or these bytes, and from now on these bytes.

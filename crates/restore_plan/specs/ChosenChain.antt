@@ -19,7 +19,8 @@ pub record IsBestNext (names : List FileName) (t after : ℕ) (name : FileName) 
 -- the chain takes the best file at each step, from a transaction to another, on the way to t
 abbrev pub IsChosenBetween : List FileName → ℕ → ℕ → List FileName → ℕ → Type 0
 IsChosenBetween names t from [] to = from ≡ to
-IsChosenBetween names t from (name ∷ chain) to = IsBestNext names t from name × IsChosenBetween names t name.max chain to
+IsChosenBetween names t from (name ∷ chain) to =
+    IsBestNext names t from name × IsChosenBetween names t name.max chain to
 
 -- the chosen chain to t
 abbrev pub IsChosenChain : List FileName → ℕ → List FileName → Type 0

@@ -18,11 +18,14 @@ IsMatched best name = IsSomeAnd best (λ chosen. IsAsGood chosen name)
 -- the best of the names of this level that were taken in
 pub record IsRun (names : List FileName) (t after : ℕ) (run : Run) : Type 0 where
   pub best : IfSome run.best (IsWithin names t after)
-  pub taken : (k : ℕ) (d : FileName) → k < run.at → k < length names → (slice_index_or names k d).level ≡ run.level → (slice_index_or names k d).max ≤ t → IsMatched run.best (slice_index_or names k d)
+  pub taken : (k : ℕ) (d : FileName) → k < run.at → k < length names → (slice_index_or names k d).level ≡ run.level
+      → (slice_index_or names k d).max ≤ t
+      → IsMatched run.best (slice_index_or names k d)
 
 -- each name of this level that begins so early was taken in: no other does
 pub record HasTakenIn (names : List FileName) (after : ℕ) (run : Run) : Type 0 where
-  pub later : (k : ℕ) (d : FileName) → run.at ≤ k → k < length names → (slice_index_or names k d).level ≡ run.level → after + 1 < (slice_index_or names k d).min
+  pub later : (k : ℕ) (d : FileName) → run.at ≤ k → k < length names → (slice_index_or names k d).level ≡ run.level
+      → after + 1 < (slice_index_or names k d).min
 
 -- the levels of files
 abbrev pub levels : List ℕ

@@ -9,7 +9,8 @@ use Rattle.restore_plan.specs.declared.walk.Walk.{Walk}
 -- in each level the ends of the names never fall
 abbrev pub AreRising : List FileName → Type 0
 AreRising names = (i k : ℕ) (d : FileName) → i ≤ k → k < length names
-    → (slice_index_or names i d).level ≡ (slice_index_or names k d).level → (slice_index_or names i d).max ≤ (slice_index_or names k d).max
+    → (slice_index_or names i d).level ≡ (slice_index_or names k d).level
+    → (slice_index_or names i d).max ≤ (slice_index_or names k d).max
 
 -- no name of the level that was passed ends beyond the transaction
 pub record IsWalk (names : List FileName) (after : ℕ) (walk : Walk) : Type 0 where
@@ -27,7 +28,8 @@ pub record StandsAtFirst (names : List FileName) (t : ℕ) (walk : Walk) : Type 
   pub within : walk.at < length names
   pub level : (d : FileName) → (slice_index_or names walk.at d).level ≡ walk.level
   pub ends : (d : FileName) → (slice_index_or names walk.at d).max ≡ t
-  pub others : (k : ℕ) (d : FileName) → k < walk.at → (slice_index_or names k d).level ≡ walk.level → (slice_index_or names k d).max ≢ t
+  pub others : (k : ℕ) (d : FileName) → k < walk.at → (slice_index_or names k d).level ≡ walk.level
+      → (slice_index_or names k d).max ≢ t
 
 -- a name that may come next after a transaction ends there
 pub record IsEndOfNext (names : List FileName) (after end : ℕ) : Type 0 where
