@@ -3,15 +3,12 @@
 ghost use Rattle.std.specs.Prelude.{◌≡◌, ◌↔◌, ◌⊎◌, ◌<◌, ◌≤◌, ◌^◌, Some, option_map, length, string_bytes, IfOk, IfSome, IsOk, IsErr, IsSome, IsTrue};
 ghost use Rattle.litestream_main.specs.Path.{path_below, IsPathOf};
 
+use crate::real_file::{fill, unless_absent, within_limit, write_whole};
 use crash_disk::NameList;
 use std::alloc::{AllocError, Global};
 use std::fs::{self, DirEntry, File, OpenOptions};
-use std::io::{self, ErrorKind, Seek, SeekFrom, Write};
-use std::os::unix::fs::FileExt;
+use std::io::{self, ErrorKind, Seek, SeekFrom};
 use std::path::Path;
-
-/// The length in bytes that no file may have, and the offset where none goes on.
-const FILE_LIMIT: u64 = 1 << 63;
 
 /// The folders that hold the files of the levels.
 const LEVELS: [&str; 5] = ["ltx/0", "ltx/1", "ltx/2", "ltx/3", "ltx/9"];
@@ -295,25 +292,6 @@ fn push_if_regular(
     Ok(())
 }
 
-fn within_limit(size: u64) -> io::Result<Option<u64>>
-    ensures value { IfOk result (λ found. found ≡ Some size) }
-    ensures too_long { IsErr result ↔ (2 ^ 63 ≤ size) }
-{
-    if size < FILE_LIMIT {
-        Ok(Some(size))
-    } else {
-        Err(ErrorKind::FileTooLarge.into())
-    }
-}
-
-/// Absence is as good as success.
-fn unless_absent(answer: io::Result<()>) -> io::Result<()> {
-    match answer {
-        Err(error) if error.kind() == ErrorKind::NotFound => Ok(()),
-        answer => answer,
-    }
-}
-
 fn create_file(runtime: &HostRuntime, path: &str) -> io::Result<File> {
     OpenOptions::new()
         .read(true)
@@ -352,42 +330,4 @@ fn sync_folder(runtime: &HostRuntime, path: &str) -> io::Result<()> {
     // The last of the ancestors of a relative path is empty.
     let path = if path.is_empty() { "." } else { path };
     File::open(runtime, path)?.sync_all()
-}
-
-/// Reads from an offset on until `into` is full or the file ends, and answers how many bytes that
-/// gave.
-fn fill(file: &File, at: u64, into: &mut [u8]) -> io::Result<usize>
-    ensures bound { IfOk result (λ n. n ≤ length into.old) }
-{
-    let mut count = 0;
-    for _ in 0..u64::MAX {
-        let offset = at.saturating_add(count as u64);
-        if count == into.len() || offset >= FILE_LIMIT {
-            return Ok(count);
-        }
-        match file.read_at(&mut into[count..], offset) {
-            Ok(0) => return Ok(count),
-            Ok(more) => count += more,
-            Err(error) if error.kind() == ErrorKind::Interrupted => {}
-            Err(error) => return Err(error),
-        }
-    }
-    Err(ErrorKind::TimedOut.into())
-}
-
-/// Writes all the bytes from the file's position on.
-fn write_whole(file: &mut File, bytes: &[u8]) -> io::Result<()> {
-    let mut rest = bytes;
-    for _ in 0..u64::MAX {
-        if rest.is_empty() {
-            return Ok(());
-        }
-        match file.write(rest) {
-            Ok(0) => return Err(ErrorKind::WriteZero.into()),
-            Ok(count) => rest = &rest[count..],
-            Err(error) if error.kind() == ErrorKind::Interrupted => {}
-            Err(error) => return Err(error),
-        }
-    }
-    Err(ErrorKind::TimedOut.into())
 }

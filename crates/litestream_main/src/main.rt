@@ -3,11 +3,16 @@
 //! This crate is the edge that is trusted. What a file, a folder or a stream does is beyond any
 //! contract, so the objects here tell no content, and each is held to its count of faults.
 //!
-//! Stands on `litestream_core`, whose top call it makes, and on `crash_disk`.
+//! Stands on `litestream_core`, whose top call it makes, on `crash_disk` and on `live_gate`.
 #![tactic(auto)]
 
 mod file_disk;
+mod file_live;
 mod folder_files;
+mod live_files;
+#[cfg(test)]
+mod live_tests;
+mod real_file;
 mod std_out;
 #[cfg(test)]
 mod tests;
