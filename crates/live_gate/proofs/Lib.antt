@@ -6,3 +6,5 @@ pub mod StillLegalLemmas
 pub mod Theorems
 pub mod MoveLemmas
 pub mod CopyLemmas
+pub mod StopLemmas
+pub mod StandardFacts

@@ -68,7 +68,7 @@ held_stays old new copied held front is end e =
 
 -- ---- entries, one more
 
-last_state-append : (before : Option State) (es more : List Entry) → last_state before (es ++ more) ≡ last_state (last_state before es) more
+pub last_state-append : (before : Option State) (es more : List Entry) → last_state before (es ++ more) ≡ last_state (last_state before es) more
 last_state-append before [] more = refl
 last_state-append before (e ∷ es) more = last_state-append (Some (state_of e)) es more
 

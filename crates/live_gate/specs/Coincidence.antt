@@ -17,12 +17,14 @@ read_bytes r = take r.asked.aimed r.database.committed ++ r.asked.answered
 abbrev pub IsReadByChecksums : LiveRecord → Type 0
 IsReadByChecksums r =
     r.asked.aimed ≤ length r.database.committed
-    → (mark : Mark) → last_mark_of (read_bytes r) ≡ Some mark → IsPrefix (take mark.end (read_bytes r)) r.database.committed
+    → (mark : Mark) → last_mark_of (read_bytes r) ≡ Some mark
+    → IsPrefix (take mark.end (read_bytes r)) r.database.committed
 
 -- each entry that came has the state of each entry of its place
 abbrev pub AddsNoTwins : History → History → Type 0
 AddsNoTwins old new =
-    (j k : ℕ) (a b : Entry) → length old ≤ k → slice_get new j ≡ Some a → slice_get new k ≡ Some b → a.place ≡ b.place → state_of a ≡ state_of b
+    (j k : ℕ) (a b : Entry) → length old ≤ k → slice_get new j ≡ Some a → slice_get new k ≡ Some b
+    → a.place ≡ b.place → state_of a ≡ state_of b
 
 -- the count rises exactly where twins came
 pub record CountsTwins (old new : Database) : Type 0 where

@@ -36,7 +36,9 @@ commit_mark h passed c = mark_of h (passed ++ c.frames) c.last
 
 -- What the entry of a commit is. The frames `passed` stand before those of the commit, `before` is the state of the
 -- entry before, where there is one, and copying has begun up to the offset `copied`.
-pub record FitsCommit (h : WalHeader) (file : List ℕ) (copied : ℕ) (passed : List (List ℕ)) (before : Option State) (c : Commit) (e : Entry) : Type 0 where
+pub record FitsCommit
+    (h : WalHeader) (file : List ℕ) (copied : ℕ) (passed : List (List ℕ)) (before : Option State)
+    (c : Commit) (e : Entry) : Type 0 where
   pub unfinished : NoneCommits c.frames
   pub commits : commit_size c.last ≢ 0
   pub place : e.place ≡ place_of (commit_mark h passed c)
@@ -45,21 +47,24 @@ pub record FitsCommit (h : WalHeader) (file : List ℕ) (copied : ℕ) (passed :
   pub is_state : IsState (state_of e)
   pub many : length e.pages ≡ commit_size c.last
   -- a page that the commit wrote is that of its last frame for it
-  pub written : (p : ℕ) (page : List ℕ) → 1 ≤ p → p ≤ length e.pages → p ≢ lock_page h.size → frames_page p (all_frames c) ≡ Some page
-      → page_of (state_of e) p ≡ Some page
+  pub written : (p : ℕ) (page : List ℕ) → 1 ≤ p → p ≤ length e.pages → p ≢ lock_page h.size
+      → frames_page p (all_frames c) ≡ Some page → page_of (state_of e) p ≡ Some page
   -- any other within both sizes is as before
-  pub kept : (s : State) (p : ℕ) → before ≡ Some s → 1 ≤ p → p ≤ length e.pages → p ≤ length s.pages → frames_page p (all_frames c) ≡ None
-      → page_of (state_of e) p ≡ page_of s p
+  pub kept : (s : State) (p : ℕ) → before ≡ Some s → 1 ≤ p → p ≤ length e.pages → p ≤ length s.pages
+      → frames_page p (all_frames c) ≡ None → page_of (state_of e) p ≡ page_of s p
   -- from the copied mark on, the state is the view
-  pub view : copied ≤ (commit_mark h passed c).end → state_of e ≡ view_under h file (passed ++ all_frames c) (commit_mark h passed c)
+  pub view : copied ≤ (commit_mark h passed c).end
+      → state_of e ≡ view_under h file (passed ++ all_frames c) (commit_mark h passed c)
 
 -- each commit has its entry, in their order
-abbrev pub AreEntries : WalHeader → List ℕ → ℕ → List (List ℕ) → Option State → List Commit → List Entry → Type 0
+abbrev pub AreEntries :
+    WalHeader → List ℕ → ℕ → List (List ℕ) → Option State → List Commit → List Entry → Type 0
 AreEntries h file copied passed before [] [] = Unit {0}
 AreEntries h file copied passed before [] (e ∷ es) = ⊥
 AreEntries h file copied passed before (c ∷ cs) [] = ⊥
 AreEntries h file copied passed before (c ∷ cs) (e ∷ es) =
-    FitsCommit h file copied passed before c e × AreEntries h file copied (passed ++ all_frames c) (Some (state_of e)) cs es
+    FitsCommit h file copied passed before c e
+    × AreEntries h file copied (passed ++ all_frames c) (Some (state_of e)) cs es
 
 -- the state of the last entry, or of none
 abbrev pub last_state : Option State → List Entry → Option State
@@ -95,7 +100,8 @@ pub record IsAtRest (history : History) (committed file : List ℕ) (copied : �
   pub header : IsWalDatabase (take 100 file) → page_size_of (page_size_field (take 100 file)) ≡ last.size
 
 abbrev pub IsRecorded : History → List ℕ → List ℕ → ℕ → Type 0
-IsRecorded history committed file copied = HasCommits history committed file copied ⊎ IsAtRest history committed file copied
+IsRecorded history committed file copied =
+    HasCommits history committed file copied ⊎ IsAtRest history committed file copied
 
 -- ---- what is copied and what is held
 
@@ -118,7 +124,8 @@ IsHeld committed copied held = (end : ℕ) → held ≡ Some end → MayBeHeld c
 abbrev pub IsWithoutTwins : History → ℕ → Type 0
 IsWithoutTwins history chances = chances ≡ 0 → HaveOneState history
 
-pub record IsLegalAs (history : History) (committed file : List ℕ) (copied : ℕ) (held : Option ℕ) (chances : ℕ) : Type 0 where
+pub record IsLegalAs
+    (history : History) (committed file : List ℕ) (copied : ℕ) (held : Option ℕ) (chances : ℕ) : Type 0 where
   pub recorded : IsRecorded history committed file copied
   pub is_copied : IsCopied committed copied
   pub is_held : IsHeld committed copied held

@@ -8,3 +8,4 @@ pub mod StepLaws
 pub mod Still
 pub mod LegalLaws
 pub mod Moves
+pub mod Stops

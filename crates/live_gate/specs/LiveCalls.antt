@@ -23,7 +23,8 @@ abbrev pub capped : ℕ → ℕ
 capped n = min n (2 ^ 64 - 1)
 
 -- what a live database is attached to stays, and at which paths a database is
-pub record Keeps (attached_before attached_now : Option Attachment) (there_before there_now : List ℕ → Bool) : Type 0 where
+pub record Keeps
+    (attached_before attached_now : Option Attachment) (there_before there_now : List ℕ → Bool) : Type 0 where
   pub attached : attached_now ≡ attached_before
   pub there : there_now ≡ there_before
 
@@ -67,7 +68,8 @@ pub record Advances (end : ℕ) (result : Result (Unit {0}) LiveFault) (old new 
   pub step : IsStepButHold old.database new.database
   pub twins : CountsTwins old.database new.database
   pub awake : IsOk result → new.database.stopped ≡ false
-  pub ok : OnOk result ((new.database.held ≡ Some end) ⊎ ((old.database.chances ≡ 0 → ⊥) × IsWriterStep old.database new.database))
+  pub ok : OnOk result
+      ((new.database.held ≡ Some end) ⊎ ((old.database.chances ≡ 0 → ⊥) × IsWriterStep old.database new.database))
   pub err : OnErr result (IsWriterStep old.database new.database)
   pub asked : new.asked ≡ old.asked
 
@@ -85,7 +87,8 @@ pub record Leaves (result : Result (Unit {0}) LiveFault) (old new : LiveRecord) 
 -- the first 100 bytes of the file, or as many as it has
 pub record GivesHead (result : Result ℕ LiveFault) (into : List ℕ) (old new : LiveRecord) : Type 0 where
   pub call : IsCall result old.database new.database
-  pub value : IfOk result (λ n. (n ≡ length (take 100 new.database.file)) × (take n into ≡ take 100 new.database.file))
+  pub value : IfOk result
+      (λ n. (n ≡ length (take 100 new.database.file)) × (take n into ≡ take 100 new.database.file))
   pub ok : OnOk result (new.asked ≡ record old.asked { head = Some (take 100 new.database.file) })
   pub err : OnErr result (new.asked ≡ old.asked)
 
@@ -96,7 +99,8 @@ pub record GivesDbSize (result : Result ℕ LiveFault) (old new : LiveRecord) : 
   pub err : OnErr result (new.asked ≡ old.asked)
 
 -- the page of this number, with zeros past the end of the file
-pub record GivesPage (size number : ℕ) (result : Result (Unit {0}) LiveFault) (into : List ℕ) (old new : LiveRecord) : Type 0 where
+pub record GivesPage
+    (size number : ℕ) (result : Result (Unit {0}) LiveFault) (into : List ℕ) (old new : LiveRecord) : Type 0 where
   pub call : IsCall result old.database new.database
   pub value : OnOk result (into ≡ file_page size new.database.file number)
   pub asked : new.asked ≡ old.asked
@@ -125,13 +129,18 @@ read_offset r = r.asked.aimed + length r.asked.answered
 
 -- These bytes were answered: inside the committed part its own, and at least one. Past it any may come.
 pub record Answers (got : List ℕ) (old new : LiveRecord) : Type 0 where
-  pub asked : new.asked ≡ record old.asked { answered = old.asked.answered ++ got; gave_none = length got == 0; taken = capped (old.asked.taken + length got) }
+  pub asked : new.asked ≡ record old.asked {
+    answered = old.asked.answered ++ got;
+    gave_none = length got == 0;
+    taken = capped (old.asked.taken + length got);
+  }
   pub some : read_offset old < length new.database.committed → 1 ≤ length got
   pub agrees : AgreeInFront got (drop (read_offset old) new.database.committed)
   -- bytes that aren't committed pass for such only where a coincidence was counted
   pub chance : IsReadByChecksums new ⊎ Rose old.database.chances new.database.chances
   pub twins : Rose old.database.chances new.database.chances ⊎ AddsNoTwins old.database.history new.database.history
-  pub calm : IsReadByChecksums new → AddsNoTwins old.database.history new.database.history → new.database.chances ≡ old.database.chances
+  pub calm : IsReadByChecksums new → AddsNoTwins old.database.history new.database.history
+      → new.database.chances ≡ old.database.chances
 
 pub record Reads (result : Result ℕ LiveFault) (into : List ℕ) (old new : LiveRecord) : Type 0 where
   pub step : IsWriterStep old.database new.database
@@ -168,16 +177,23 @@ pub record TakesPlace (place : Place) (old new : Database) : Type 0 where
 -- why a pass changes nothing
 abbrev pub IsKept : Place → Bool → Database → Type 0
 IsKept place at_rest d =
-    (d.refuses ≡ true) ⊎ ((at_rest ≡ false) ⊎ ((mark : Mark) → last_mark_of d.committed ≡ Some mark → place_of mark ≡ place → d.held ≡ Some mark.end → ⊥))
+    (d.refuses ≡ true)
+    ⊎ ((at_rest ≡ false)
+    ⊎ ((mark : Mark) → last_mark_of d.committed ≡ Some mark → place_of mark ≡ place → d.held ≡ Some mark.end → ⊥))
 
 -- what `pass` did
 abbrev pub Passes : Place → Bool → Result Pass PassFault → LiveRecord → LiveRecord → Type 0
 Passes place at_rest (Ok Passed) old new =
-    TakesPlace place old.database new.database × CountsTwins old.database new.database × (at_rest ≡ true) × (new.database.stopped ≡ false)
-    × (new.asked ≡ record old.asked { passes_asked = capped (old.asked.passes_asked + 1); passes_done = capped (old.asked.passes_done + 1) })
+    TakesPlace place old.database new.database × CountsTwins old.database new.database
+    × (at_rest ≡ true) × (new.database.stopped ≡ false)
+    × (new.asked ≡ record old.asked {
+      passes_asked = capped (old.asked.passes_asked + 1);
+      passes_done = capped (old.asked.passes_done + 1);
+    })
 Passes place at_rest (Ok Kept) old new =
     IsCall {T = Pass} {E = PassFault} (Ok Kept) old.database new.database × IsKept place at_rest new.database
     × (new.asked ≡ record old.asked { passes_asked = capped (old.asked.passes_asked + 1) })
 Passes place at_rest (Err fault) old new =
-    (TakesPlace place old.database new.database ⊎ IsWriterStep old.database new.database) × CountsTwins old.database new.database
+    (TakesPlace place old.database new.database ⊎ IsWriterStep old.database new.database)
+    × CountsTwins old.database new.database
     × (new.asked ≡ record old.asked { passes_asked = capped (old.asked.passes_asked + 1) })

@@ -10,7 +10,7 @@ pub record Database : Type 0 where
   pub committed : List ℕ
   -- the bytes of the database file
   pub file : List ℕ
-  -- the end of the copied mark, the greatest up to which copying into the database file has begun; 0 where there is none
+  -- the end of the copied mark, the greatest up to which copying into the file has begun; 0 where there is none
   pub copied : ℕ
   -- the end of the mark at which the gate is held, 0 where it is held at no mark, none where it isn't held
   pub held : Option ℕ

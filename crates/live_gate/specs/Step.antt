@@ -9,7 +9,8 @@ use Rattle.live_gate.specs.Legal.{IsLegal}
 pub record KeepsHold (end : ℕ) (old new : Database) : Type 0 where
   pub held : new.held ≡ Some end
   pub committed : IsPrefix old.committed new.committed
-  pub entries : length new.history + length (marks_of old.committed) ≡ length old.history + length (marks_of new.committed)
+  pub entries :
+      length new.history + length (marks_of old.committed) ≡ length old.history + length (marks_of new.committed)
   pub file : end ≡ 0 → new.file ≡ old.file
 
 -- the machine stopped, and the hold is gone
@@ -32,7 +33,7 @@ pub record IsWriterStep (old new : Database) : Type 0 where
 abbrev pub Moves : Told → Told → Type 0
 Moves old new = GoesOn old new (λ r after. IsWriterStep r.database after.database)
 
--- A step, and besides the gate was taken, moved or given up: it is one with some other hold put in. What comes is legal.
+-- A step, and besides the gate was taken, moved or given up: it is one with some other hold put in.
 pub record IsStepButHold (old new : Database) : Type 0 where
   pub held : Option ℕ
   pub step : IsWriterStep old (record new { held = held })

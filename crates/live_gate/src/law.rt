@@ -3,6 +3,7 @@
 ghost use Rattle.live_gate.specs.LegalLaws.{MarksAreRecorded, StillIsLegal};
 ghost use Rattle.live_gate.specs.Moves.{CommitsAreSteps, CopyingIsAStep, RestartsAreSteps, PassesKeepLegal};
 ghost use Rattle.live_gate.specs.StepLaws.{StepsStay, StepsJoin, MovesStay, MovesJoin};
+ghost use Rattle.live_gate.specs.Stops.{FallingBackIsAStep, StopsAtRestAreSteps};
 
 /// No move is a step of the writer, and two steps are one. Does nothing: its clauses hold of all live
 /// databases.
@@ -28,4 +29,12 @@ pub fn move_laws()
     ensures copying { CopyingIsAStep }
     ensures restarts { RestartsAreSteps }
     ensures passes { PassesKeepLegal }
+{}
+
+/// A stop of the machine is a step of the writer: the log falls back to a mark at or past the copied one,
+/// or to nothing, and entries that the history has come once more. Does nothing: its clauses hold of all
+/// live databases.
+pub fn stop_laws()
+    ensures back { FallingBackIsAStep }
+    ensures at_rest { StopsAtRestAreSteps }
 {}
