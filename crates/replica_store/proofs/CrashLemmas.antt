@@ -13,14 +13,10 @@ use Rattle.crash_disk.proofs.Moments.{since_now}
 use Rattle.crash_disk.proofs.PutTheorem.{image_with}
 use Rattle.ls_base.specs.History.{History}
 use Rattle.ls_base.specs.SyncLog.{SyncLog}
-use Rattle.replica_store.specs.CrashFaithful.{IsSettled}
+use Rattle.replica_store.specs.CrashFaithful.{LeavesAsRead, IsSettled}
 use Rattle.replica_store.specs.Faithful.{IsFaithful}
 use Rattle.replica_store.specs.Listing.{IsFilePath}
 use Rattle.replica_store.proofs.FaithLemmas.{same_bytes, same_faithful, whole_front}
-
--- under the path of a name a crash can leave only what reads there
-abbrev pub LeavesAsRead : List Event → Type 0
-LeavesAsRead events = (path : List ℕ) → IsFilePath path → (file : Option (List ℕ)) → MayStandAt events path file → file ≡ file_at events path
 
 pub both_or_none : (found read : Option (List ℕ)) → IsSome found ↔ IsSome read → ((a b : List ℕ) → found ≡ Some a → read ≡ Some b → a ≡ b) → found ≡ read
 both_or_none None None both same = refl

@@ -16,14 +16,14 @@ use Rattle.ls_base.specs.History.{History}
 use Rattle.ls_base.specs.SyncLog.{SyncLog}
 use Rattle.replica_store.specs.declared.file_name.FileName.{FileName}
 use Rattle.replica_store.specs.CarriesOn.{IsYoung, CarriesOn}
-use Rattle.replica_store.specs.CrashFaithful.{IsCrashFaithful, IsSettled}
+use Rattle.replica_store.specs.CrashFaithful.{LeavesAsRead, IsCrashFaithful, IsSettled}
 use Rattle.replica_store.specs.Dropping.{MayDropAll, IsInWithout, MayGo}
 use Rattle.replica_store.specs.Faithful.{IsFaithful, IsFaithfulToFront}
 use Rattle.replica_store.specs.Listing.{path_of, IsFilePath, IsIn}
 use Rattle.replica_store.specs.Putting.{IsAbsent, HasSyncedNames, MayDrop}
 use Rattle.replica_store.specs.Retained.{IsRetainedIn}
 use Rattle.replica_store.proofs.CarryLemmas.{none_new, fewer_lines}
-use Rattle.replica_store.proofs.CrashLemmas.{LeavesAsRead, as_read, image_reads, both_or_none, settled_by, since_split, grown_longer}
+use Rattle.replica_store.proofs.CrashLemmas.{as_read, image_reads, both_or_none, settled_by, since_split, grown_longer}
 use Rattle.replica_store.proofs.FaithLemmas.{is_path, same_bytes, in_same, same_faithful, part_faithful, whole_front, leads_more}
 use Rattle.replica_store.proofs.LogLemmas.{longer_same}
 

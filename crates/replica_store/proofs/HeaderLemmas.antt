@@ -17,7 +17,7 @@ use Rattle.replica_store.specs.declared.error.StoreError.{StoreError}
 use Rattle.replica_store.specs.declared.error.StoreError.TheVariants.{Store, Damaged, Memory}
 use Rattle.replica_store.specs.declared.file_name.FileName.{FileName}
 use Rattle.replica_store.specs.Chain.{names_of}
-use Rattle.replica_store.specs.Dating.{HaveMoments, AreDated, IsHeaderUnder, IsHeaderDamage, IsFirstBadHeader, ExplainsHeader, ExplainsDated}
+use Rattle.replica_store.specs.Dating.{HaveMoments, AreDated, AreDatedTo, IsHeaderUnder, IsHeaderDamage, IsFirstBadHeader, ExplainsHeader, ExplainsDated}
 use Rattle.replica_store.specs.Listing.{bytes_under}
 
 -- what was read into the front of a buffer of 100 bytes
@@ -49,11 +49,6 @@ moments_more files (first ∷ dated) d h moments is moment = (moments.0, moments
 names_more : (dated : List Dated) (d : Dated) → names_of (dated ++ d ∷ []) ≡ names_of dated ++ d.name ∷ []
 names_more [] d = refl
 names_more (first ∷ dated) d = ap (λ ns. first.name ∷ ns) (names_more dated d)
-
--- the front of the names that have their moments
-pub record AreDatedTo (files : Files) (names : List FileName) (at : ℕ) (dated : List Dated) : Type 0 where
-  pub names_are : names_of dated ≡ take at names
-  pub moments : HaveMoments files dated
 
 pub names_to : (names : List FileName) (at : ℕ) (dated after : List Dated) (name : FileName) (moment : ℕ) → at < length names → name ≡ get_or names at name → names_of dated ≡ take at names
     → after ≡ dated ++ record { name = name; moment = moment } ∷ [] → names_of after ≡ take (at + 1) names

@@ -14,12 +14,12 @@ use Rattle.ls_base.specs.History.{History, state_at}
 use Rattle.ls_base.specs.SyncLog.{SyncLog, IsSyncLog}
 use Rattle.replica_store.specs.declared.file_name.FileName.{FileName}
 use Rattle.replica_store.specs.CarriesOn.{IsYoung, IsLonger, CarriesOn}
-use Rattle.replica_store.specs.CrashFaithful.{IsCrashFaithful, IsSettled}
+use Rattle.replica_store.specs.CrashFaithful.{LeavesAsRead, IsCrashFaithful, IsSettled}
 use Rattle.replica_store.specs.Faithful.{IsFaithfulFile, IsFaithful, IsFaithfulToFront}
 use Rattle.replica_store.specs.Listing.{path_of, IsFilePath, IsValid, IsIn}
 use Rattle.replica_store.specs.Putting.{draft_path, KeepsOthers, Puts}
 use Rattle.replica_store.proofs.CarryLemmas.{none_new, front_of_longer, fewer_lines}
-use Rattle.replica_store.proofs.CrashLemmas.{LeavesAsRead, as_read, settled_by}
+use Rattle.replica_store.proofs.CrashLemmas.{as_read, settled_by}
 use Rattle.replica_store.proofs.FaithLemmas.{is_path, is_there, same_bytes, same_faithful, whole_front, put_faithful, retained_more}
 use Rattle.replica_store.proofs.LogLemmas.{longer_same, longer_by}
 use Rattle.replica_store.proofs.PathLemmas.{length-file_path}

@@ -1,5 +1,5 @@
 -- The laws of a replica that no stop harms.
-use Rattle.std.specs.Prelude.{◌≡◌, ℕ, ◌<◌, ◌≤◌, List, [], ◌∷◌, ◌++◌, length, take, Some}
+use Rattle.std.specs.Prelude.{◌≡◌, ◌↔◌, ℕ, ◌<◌, ◌≤◌, List, [], ◌∷◌, ◌++◌, length, take, Some}
 use Rattle.std.specs.List.{Contains}
 use Rattle.crash_disk.specs.declared.event.Event.{Event}
 use Rattle.crash_disk.specs.declared.event.Event.TheVariants.{Placed}
@@ -13,7 +13,7 @@ use Rattle.ls_base.specs.SyncLog.{SyncLog}
 use Rattle.ltx_format.specs.declared.header.LtxHeader.{LtxHeader}
 use Rattle.replica_store.specs.declared.file_name.FileName.{FileName}
 use Rattle.replica_store.specs.CarriesOn.{IsLonger, IsExtendedBy, CarriesOn, RetainsNew}
-use Rattle.replica_store.specs.CrashFaithful.{IsCrashFaithful, IsSettled}
+use Rattle.replica_store.specs.CrashFaithful.{IsCrashFaithful, IsSettled, LeavesAsRead}
 use Rattle.replica_store.specs.Dropping.{MayDropAll, MayGo}
 use Rattle.replica_store.specs.Faithful.{IsFaithful}
 use Rattle.replica_store.specs.FaithLaws.{line_in, state_after}
@@ -23,6 +23,12 @@ use Rattle.replica_store.specs.NameText.{whole_path}
 use Rattle.replica_store.specs.PutFiles.{IsNextFile, IsMergedFile, FollowsRetained}
 use Rattle.replica_store.specs.Putting.{IsAbsent, KeepsOthers, Puts, HasPut, HasSyncedNames, MayDrop}
 use Rattle.replica_store.specs.Retained.{IsRetainedIn}
+
+-- a disk is settled exactly where its files as read are faithful, and a crash leaves them as they read
+abbrev pub SettledIsAsRead : Type 0
+SettledIsAsRead =
+    (history : History) (events : List Event) (log : SyncLog)
+    → IsSettled events history log ↔ (IsFaithful (files_after events) history log × LeavesAsRead events)
 
 -- ---- steps
 

@@ -1,9 +1,9 @@
 -- What it means that a replica tells the truth whatever a crash leaves of it.
-use Rattle.std.specs.Prelude.{◌≡◌, ◌↔◌, ℕ, List, Some, IsSome}
+use Rattle.std.specs.Prelude.{◌≡◌, ◌↔◌, ℕ, List, Option, Some, IsSome}
 use Rattle.std.specs.FinMap.{get}
 use Rattle.crash_disk.specs.declared.event.Event.{Event}
 use Rattle.crash_disk.specs.Files.{Files, files_after, file_at}
-use Rattle.crash_disk.specs.Images.{IsCrashImage}
+use Rattle.crash_disk.specs.Images.{MayStandAt, IsCrashImage}
 use Rattle.ls_base.specs.History.{History}
 use Rattle.ls_base.specs.SyncLog.{SyncLog}
 use Rattle.replica_store.specs.Faithful.{IsFaithful, IsFaithfulToFront}
@@ -22,3 +22,9 @@ pub record IsSettled (events : List Event) (history : History) (log : SyncLog) :
   pub faithful : IsCrashFaithful events history log
   pub names : (image : Files) → IsCrashImage events image
       → (path : List ℕ) → IsFilePath path → IsSome (get image path) ↔ IsSome (file_at events path)
+
+-- under the path of a name a crash leaves what reads there, and nothing else
+abbrev pub LeavesAsRead : List Event → Type 0
+LeavesAsRead events =
+    (path : List ℕ) → IsFilePath path
+    → (file : Option (List ℕ)) → MayStandAt events path file → file ≡ file_at events path

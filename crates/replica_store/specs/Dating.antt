@@ -1,5 +1,5 @@
 -- The headers under names, and the moments that they tell.
-use Rattle.std.specs.Prelude.{◌≡◌, ◌≢◌, List, ◌∷◌, ◌++◌, take, Some, ◌⊎◌, ⊤}
+use Rattle.std.specs.Prelude.{◌≡◌, ◌≢◌, ℕ, List, ◌∷◌, ◌++◌, take, Some, ◌⊎◌, ⊤}
 use Rattle.std.specs.List.{AllByRecursion}
 use Rattle.crash_disk.specs.Files.{Files, files_after}
 use Rattle.crash_disk.specs.Told.{Told, IfTold}
@@ -41,6 +41,11 @@ HaveMoments files dated =
 -- the names with their moments
 pub record AreDated (files : Files) (names : List FileName) (dated : List Dated) : Type 0 where
   pub names_are : names_of dated ≡ names
+  pub moments : HaveMoments files dated
+
+-- so many of the first names with their moments
+pub record AreDatedTo (files : Files) (names : List FileName) (at : ℕ) (dated : List Dated) : Type 0 where
+  pub names_are : names_of dated ≡ take at names
   pub moments : HaveMoments files dated
 
 -- the first name whose file has no header of its transactions

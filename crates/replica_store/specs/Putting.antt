@@ -51,7 +51,8 @@ PutsNothing path old new = AfterPutting path old new (λ written. KeepsOthers pa
 
 -- Where nothing but the temporary file had changed since some moment, so it is then.
 abbrev pub StillKeepsOthers : List ℕ → Told → Told → Type 0
-StillKeepsOthers path old new = (begun : Told) → GoesOn begun old (KeepsOthers path) → GoesOn begun new (KeepsOthers path)
+StillKeepsOthers path old new =
+    (begun : Told) → GoesOn begun old (KeepsOthers path) → GoesOn begun new (KeepsOthers path)
 
 -- what a crash may leave at a name: what it might have left before, or these bytes under the path
 abbrev pub KeptOrPut : List ℕ → List ℕ → List Event → List ℕ → Option (List ℕ) → Type 0

@@ -36,7 +36,8 @@ impl Model for Put {
 
 impl Put {
     /// Begins the file of this name, without a byte. A temporary file that a stop left is removed first, and not
-    /// emptied: it may be a file that a crash still shows under another name. Takes no memory.
+    /// emptied: it may be a file that a crash still shows under another name. After a fault nothing but the
+    /// temporary file has changed. Takes no memory.
     pub fn begin<S: Disk>(store: &mut S, name: &FileName) -> Result<Put, DiskFault>
         ensures named { IfOk result (λ put. put ≡ path_of name.now) }
         ensures ok { IfOk result (λ put. GoesOn (S.told store.old) (S.told store.new) (IsPutting put [])) }
@@ -81,7 +82,8 @@ impl Put {
         store.sync_names()
     }
 
-    /// Removes what was written of the file. Takes no memory.
+    /// Removes what was written of the file. Whatever the answer, nothing but the temporary file has changed. Takes
+    /// no memory.
     pub fn abandon<S: Disk>(self, store: &mut S) -> Result<(), DiskFault>
         ensures ok { OnOk result (IfTold (S.told store.new) (λ events. IsAbsent events (draft_path self))) }
         ensures kept { StillKeepsOthers self (S.told store.old) (S.told store.new) }

@@ -2,7 +2,8 @@
 //!
 //! Each function does nothing: its clauses are statements on all replicas, for the proofs of callers.
 
-ghost use Rattle.replica_store.specs.CarryLaws.{CarriesOnItself, CarriesOnThen, TemporaryFilesChangeNothing};
+ghost use Rattle.replica_store.specs.CarryLaws.{SettledIsAsRead, CarriesOnItself, CarriesOnThen};
+ghost use Rattle.replica_store.specs.CarryLaws.{TemporaryFilesChangeNothing};
 ghost use Rattle.replica_store.specs.CarryLaws.{NextFileCarriesOn, NextFileSettles};
 ghost use Rattle.replica_store.specs.CarryLaws.{MergedFileCarriesOn, MergedFileSettles};
 ghost use Rattle.replica_store.specs.CarryLaws.{NoneDropped, OneMoreDropped, DropsCarryOn};
@@ -12,9 +13,10 @@ ghost use Rattle.replica_store.specs.CarryLaws.{LongerHistoryKeeps, MoreFilesRet
 ghost use Rattle.replica_store.specs.CarryLaws.{FaithfulFilesExtend, OneExtension};
 ghost use Rattle.replica_store.specs.CarryLaws.{EmptyIsSettled, WholeIsSettled};
 
-/// A settled replica carries on while nothing is done, or nothing but a temporary file changes, and one step after
-/// another is a step.
+/// A replica is settled exactly where a crash leaves its files as they read. It carries on while nothing is done, or
+/// nothing but a temporary file changes, and one step after another is a step.
 pub fn settled_replicas_carry_on()
+    ensures as_read { SettledIsAsRead }
     ensures itself { CarriesOnItself }
     ensures then { CarriesOnThen }
     ensures temporary { TemporaryFilesChangeNothing }

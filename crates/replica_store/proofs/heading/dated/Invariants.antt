@@ -2,8 +2,8 @@ use Rattle.std.proofs.Common.{◌≡◌, ◌*◌, ◌≤◌, take}
 use Rattle.crash_disk.specs.Files.{files_after}
 use Rattle.crash_disk.specs.Told.{IfTold}
 use Rattle.replica_store.specs.Chain.{names_of}
+use Rattle.replica_store.specs.Dating.{AreDatedTo}
 use Rattle.replica_store.specs.Given.{GaveAtMost}
-use Rattle.replica_store.proofs.HeaderLemmas.{AreDatedTo}
 use Rattle.replica_store.proofs.heading.dated.Given as goal
 
 abbrev pub invariant-loop-name : goal.invariant-loop-name
