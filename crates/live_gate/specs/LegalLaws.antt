@@ -15,7 +15,8 @@ pub record EndsAtMarks (history : History) (committed : List ℕ) : Type 0 where
 
 abbrev pub MarksAreRecorded : Type 0
 MarksAreRecorded =
-    (history : History) (committed file : List ℕ) (copied : ℕ) → IsRecorded history committed file copied → EndsAtMarks history committed
+    (history : History) (committed file : List ℕ) (copied : ℕ) → IsRecorded history committed file copied
+    → EndsAtMarks history committed
 
 -- a database that never moves is legal, whatever its two files hold
 abbrev pub StillIsLegal : Type 0

@@ -72,7 +72,8 @@ pub record CopiesFrames (old new : Database) : Type 0 where
   pub at_mark : IsMarkEnd old.committed new.copied
   pub not_past : (end : ℕ) → old.held ≡ Some end → (end ≢ 0) × (new.copied ≤ end)
   pub others : (h : WalHeader) (p : ℕ) → read_header old.committed ≡ Ok h
-      → frames_page p (frames_before h (valid_frames old.committed) new.copied) ≡ None → file_page h.size new.file p ≡ file_page h.size old.file p
+      → frames_page p (frames_before h (valid_frames old.committed) new.copied) ≡ None
+      → file_page h.size new.file p ≡ file_page h.size old.file p
   pub history : new.history ≡ old.history
   pub committed : new.committed ≡ old.committed
   pub held : new.held ≡ old.held

@@ -38,11 +38,16 @@ file_page_size db = let size = page_size_of (page_size_field (take 100 db)) in i
 
 -- the entry of a mark is the view there
 abbrev pub still_entry : List ℕ → List ℕ → Mark → Entry
-still_entry db log mark = record { size = log_page_size log; place = place_of mark; pages = (view_at db log mark).pages }
+still_entry db log mark =
+    record { size = log_page_size log; place = place_of mark; pages = (view_at db log mark).pages }
 
 -- the entry of the database file alone
 abbrev pub still_rest : List ℕ → Entry
-still_rest db = record { size = file_page_size db; place = rest_place (file_page_size db) db; pages = (view_at_rest (file_page_size db) db).pages }
+still_rest db = record {
+  size = file_page_size db;
+  place = rest_place (file_page_size db) db;
+  pages = (view_at_rest (file_page_size db) db).pages;
+}
 
 -- The history of a database with this log: one entry a mark, and where there is none the one at rest
 abbrev pub history_of_marks : List ℕ → List ℕ → List Mark → History

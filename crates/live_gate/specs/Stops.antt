@@ -37,7 +37,7 @@ pub record FallsBack (old new : Database) : Type 0 where
   pub chances : old.chances ≤ new.chances
   pub twins : CountsTwins old new
 
--- The log had no commit, or loses all of them: an entry that the history has comes once more, that of the database file.
+-- The log had no commit, or loses all of them: an entry that the history has comes once more, that of the file.
 pub record StopsAtRest (old new : Database) : Type 0 where
   pub again : Entry
   pub came : Contains old.history again

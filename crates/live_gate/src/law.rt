@@ -21,9 +21,9 @@ pub fn legal_laws()
     ensures still { StillIsLegal }
 {}
 
-/// Each move is a step of the writer: a commit more, also while the gate is held; copying into
-/// the database file, up to the held mark; a restart or a cut, by which the log ceases to have a commit. A pass keeps a legal database legal. Does nothing: its clauses
-/// hold of all live databases.
+/// Each move is a step of the writer: a commit more, also while the gate is held; copying into the
+/// database file, up to the held mark; a restart or a cut, by which the log ceases to have a commit. A
+/// pass keeps a legal database legal. Does nothing: its clauses hold of all live databases.
 pub fn move_laws()
     ensures commits { CommitsAreSteps }
     ensures copying { CopyingIsAStep }

@@ -39,7 +39,8 @@ pub trait Live {
     fn attach(&mut self, alloc: Global, path: &str, at_rest: bool) -> Result<Attached, PassFault>
         ensures ok { OnOk result (attached self.new ≡ Some (record { path = path.now; at_rest = at_rest })) }
         ensures err { OnErr result (attached self.new ≡ attached self.old) }
-        ensures found { IfOk result (λ found. IfTold (told self.new) (λ _. found ≡ found_at (is_there self.old path.now))) }
+        ensures found { IfOk result (λ found.
+            IfTold (told self.new) (λ _. found ≡ found_at (is_there self.old path.now))) }
         ensures there { is_there self.new ≡ is_there self.old }
         ensures content { GoesOn (content self.old path.now) (content self.new path.now) (Attaches result) }
         ensures told { OnErr result (GoesOn (told self.old) (told self.new) (Attaches result)) }
@@ -115,7 +116,8 @@ pub trait Live {
     /// the live database refuses now; it refuses where `attach` didn't say that nobody else has the database
     /// open. `Memory` for want of it. After a fault or `Memory` the pass took place or didn't.
     fn pass(&mut self, alloc: Global, place: &Place) -> Result<Pass, PassFault>
-        ensures told { GoesOn (told self.old) (told self.new) (Passes place.now (is_at_rest (attached self.old)) result) }
+        ensures told { GoesOn (told self.old) (told self.new)
+            (Passes place.now (is_at_rest (attached self.old)) result) }
         ensures keeps { Keeps (attached self.old) (attached self.new) (is_there self.old) (is_there self.new) }
         ensures cause { PassHasCause (fault_count self.old) (fault_count self.new) result };
 

@@ -41,7 +41,20 @@ impl Model for StillLive {
 
     ghost Value = { StillState };
 
-    ghost view = { λ s. record { db = s.db; wal = s.wal; attached = attachment_of s.path s.at_rest; held = s.held; aimed = s.aimed; answered = s.answered; gave_none = s.gave_none; head = s.head; db_size = s.db_size; wal_size = s.wal_size; taken = s.taken; passes = s.passes } };
+    ghost view = { λ s. record {
+      db = s.db;
+      wal = s.wal;
+      attached = attachment_of s.path s.at_rest;
+      held = s.held;
+      aimed = s.aimed;
+      answered = s.answered;
+      gave_none = s.gave_none;
+      head = s.head;
+      db_size = s.db_size;
+      wal_size = s.wal_size;
+      taken = s.taken;
+      passes = s.passes;
+    } };
 
     ghost invariant = { λ s. s.answered ≤ length s.wal - s.aimed };
 }

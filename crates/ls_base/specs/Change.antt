@@ -30,4 +30,7 @@ pub record IsApplicable (s : State) (c : Change) : Type 0 where
 
 -- the state after the change: its commit pages
 abbrev pub apply : State → Change → State
-apply s c = record { page_size = Some c.page_size; pages = map (λ p. unwrap_or (page_after s c p) []) (range_with_len 1 c.commit) }
+apply s c = record {
+  page_size = Some c.page_size;
+  pages = map (λ p. unwrap_or (page_after s c p) []) (range_with_len 1 c.commit);
+}

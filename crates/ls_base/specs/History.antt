@@ -22,4 +22,5 @@ state_at history place = option_map state_of (find (λ entry. is_same_place entr
 -- entries of one place have one state
 abbrev pub HaveOneState : History → Type 0
 HaveOneState history =
-    (j k : ℕ) (a b : Entry) → slice_get history j ≡ Some a → slice_get history k ≡ Some b → a.place ≡ b.place → state_of a ≡ state_of b
+    (j k : ℕ) (a b : Entry) → slice_get history j ≡ Some a → slice_get history k ≡ Some b
+    → a.place ≡ b.place → state_of a ≡ state_of b

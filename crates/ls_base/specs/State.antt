@@ -21,7 +21,8 @@ HasPageSize (Some size) pages = AllByRecursion (λ page. length page ≡ size) p
 -- The lock page, where the state has one, is zeros: SQLite never uses it, and it is never stored.
 abbrev pub HasBlankLockPage : State → Type 0
 HasBlankLockPage s =
-    (size : ℕ) → s.page_size ≡ Some size → (page : List ℕ) → page_of s (lock_page size) ≡ Some page → page ≡ replicate size 0
+    (size : ℕ) → s.page_size ≡ Some size → (page : List ℕ) → page_of s (lock_page size) ≡ Some page
+    → page ≡ replicate size 0
 
 -- what each state of a database is
 pub record IsState (s : State) : Type 0 where
