@@ -1,4 +1,4 @@
-use Rattle.std.proofs.Common.{◌≡◌, ℕ, ◌+◌, List, ◌++◌, length, take, drop, ap, ◌∙◌}
+use Rattle.std.proofs.Common.{rules, ◌≡◌, ℕ, ◌+◌, List, ◌++◌, length, take, drop, ap, ◌∙◌}
 use Rattle.std.specs.Prelude.{min}
 use Rattle.live_gate.specs.contracts.still_live.StillLive.{the_view}
 use Rattle.live_gate.proofs.StillLemmas.{goes_on, reads}
@@ -11,4 +11,4 @@ returns-clause-told c =
     let behind = drop (length c.rest_from.result.now) c.args.into.now in
     let count = c.copy_front-count.ensures.count ∙ ap (λ (b : List ℕ). min (length b) room) rest in
     let front = c.copy_front-count.ensures.front ∙ ap (λ (b : List ℕ). take room b ++ behind) rest in
-    rw (← c.self.view_is) (goes_on _ _ _ (reads (the_view c.self.inside) c.copy_front-count.result c.saturating_add-self-inside.result room c.copy_front-count.new.into behind c.self.invariant c.requires.room count front c.saturating_add-self-inside.ensures))
+    rw (← c.self.view_is) (goes_on _ _ _ (reads (the_view c.self.inside) c.copy_front-count.result c.saturating_add-self-inside.result room c.copy_front-count.new.into behind c.self.invariant c.requires.room count front (search rules)))
