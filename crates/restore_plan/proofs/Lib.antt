@@ -1,4 +1,5 @@
 pub mod ChainLemmas
+pub mod LastLemmas
 pub mod MomentLemmas
 pub mod OrderLemmas
 pub mod RunLemmas

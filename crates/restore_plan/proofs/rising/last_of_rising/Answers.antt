@@ -3,7 +3,8 @@ use Rattle.std.specs.Prelude.{IfSome, IsSomeAnd}
 use Rattle.std.proofs.lemmas.Bool.{false≢true}
 use Rattle.replica_store.specs.Chain.{moment_of, LeadsTo}
 use Rattle.restore_plan.specs.Moment.{IsRetainedAt}
-use Rattle.restore_plan.proofs.WalkLemmas.{IsMost, longer, leads_longer, is_at, most_taken, most_passed, no_further, last_is, none_is, walks_later}
+use Rattle.restore_plan.proofs.LastLemmas.{IsMost, longer, leads_longer, is_at, most_taken, most_passed, no_further, last_is, none_is}
+use Rattle.restore_plan.proofs.WalkLemmas.{walks_later}
 use Rattle.restore_plan.proofs.rising.last_of_rising.Goals as goal
 use Rattle.restore_plan.proofs.rising.last_of_rising.Goals.{then-is_by, else-is_by}
 
