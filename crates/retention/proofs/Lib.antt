@@ -1,0 +1,14 @@
+mod LeadLemmas
+mod CoverLemmas
+mod SweepLemmas
+mod YoungLemmas
+mod StretchLemmas
+mod PaintingLemmas
+mod ListLemmas
+mod ClaimLemmas
+mod KeptLemmas
+mod BuiltLemmas
+mod StandingLemmas
+mod WalkLemmas
+mod DropLemmas
+mod StandardFacts

@@ -1,0 +1,9 @@
+pub mod Drops
+pub mod Kept
+pub mod Claims
+pub mod Painting
+pub mod Young
+pub mod Retained
+pub mod Protected
+pub mod Walk
+pub mod Stretch
