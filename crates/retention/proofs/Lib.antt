@@ -12,3 +12,4 @@ mod StandingLemmas
 mod WalkLemmas
 mod DropLemmas
 mod StandardFacts
+mod PruneLemmas

@@ -7,3 +7,4 @@ pub mod Retained
 pub mod Protected
 pub mod Walk
 pub mod Stretch
+pub mod Pruning

@@ -9,8 +9,11 @@
 //! leads over it and not past the next protected transaction. So an old name stays where a stretch falls to it that
 //! no kept one before it spans: the last that spans the stretch, where no young one does.
 //!
-//! Stands on `ls_base` and `replica_store`, whose `specs/Chain.antt` says what a chain is. What takes memory answers
-//! `Memory` for want of it.
+//! `prune` removes the names, and brings the names that are left to the disk. Whatever a crash leaves meanwhile, each
+//! protected transaction is retained in it.
+//!
+//! Stands on `ls_base`, `crash_disk` and `replica_store`, whose `specs/Chain.antt` says what a chain is. What takes
+//! memory answers `Memory` for want of it.
 #![tactic(auto)]
 
 mod claim;
@@ -19,6 +22,7 @@ mod dropping;
 mod kept;
 mod outcome;
 mod painting;
+mod pruning;
 mod retained;
 mod stretch;
 #[cfg(test)]
@@ -27,3 +31,4 @@ mod young;
 
 pub use dropping::drops;
 pub use outcome::Drops;
+pub use pruning::prune;
