@@ -128,9 +128,6 @@ are_stretches dated cut ts young goals stretches are are_young are_goals between
           (a.place, low, end a.place low ∙ a.is, goal a.place low ∙ itself ∙ a.is);
     }
 
-none : Stretch
-none = record { before = 0; end = 0; goal = 0 }
-
 same_stretch : (stretches : List Stretch) (n : Stretch → ℕ) (k : ℕ) (d : Stretch) → k < length stretches → n (get_or stretches k d) ≡ n (stretch_at stretches k)
 same_stretch stretches n k d low = ap n (get_or_default stretches k d (record { before = 0; end = 0; goal = 0 }) low)
 

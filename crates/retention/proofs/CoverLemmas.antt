@@ -78,9 +78,6 @@ come_over dated cut stretches are P spanned (suc k) low =
     ]) (spanned (k + 1) next) in
     subst (λ n. HasCome P (stretch_at stretches n)) (sym same) over
 
-positive_of : (names : List FileName) (t : ℕ) → IsRetained names t → 1 ≤ t
-positive_of names t is = is.positive
-
 -- a part that spans each stretch keeps each protected transaction
 pub keeps_each : (dated : List Dated) (cut : ℕ) (stretches : List Stretch) → AreStretches dated cut stretches → (P : FileName → Type 0)
     → ((k : ℕ) → k < length stretches → IsSpanned P (stretch_at stretches k)) → (t : ℕ) → IsProtected dated cut t → Reaches P t

@@ -208,6 +208,3 @@ paint_all skips now later start to from is took =
         | inr mine ↦ inr (mine.0, elim is.below [ inl none ↦ absurd (omega (arith, none, mine.0, mine.1)) | inr low ↦ omega (arith, low, mine.1) ])
       ];
     }
-
-later_skips : (skips later : List ℕ) → AreAsPainted skips later → AreSkips later → AreSkips later
-later_skips skips later same are = are

@@ -22,16 +22,13 @@ use Rattle.retention.proofs.StandingLemmas.{named_among, in_standing, from_stand
 standing_among : (kept : List Bool) (dated : List Dated) (name : FileName) → Contains (standing kept dated) name → Contains (names_of dated) name
 standing_among kept dated name there = let s = from_standing kept dated name there in subst (λ n. Contains (names_of dated) n) s.named (named_among dated s.place s.one s.there)
 
--- a young name spans the stretch, or it falls to a name
-Falls : List Dated → ℕ → List Stretch → List Claim → ℕ → Type 0
-Falls dated cut stretches claims k = ((j : ℕ) × YoungSpans dated cut stretches j k) ⊎ ((p : ℕ) × (claim : Claim) × (slice_get claims p ≡ Some claim) × (claim.stretch ≡ k))
-
 by_age : (dated : List Dated) (cut : ℕ) (stretches : List Stretch) (i k : ℕ) (one : Dated) → slice_get dated i ≡ Some one → Spans one.name (stretch_at stretches k) → YoungSpans dated cut stretches i k ⊎ OldSpans dated cut stretches i k
 by_age dated cut stretches i k one there spans = elim (cases_lt one.moment cut) [
   | inl old ↦ inr (record { one = one; there = there; old = old; spans = spans })
   | inr young ↦ inl (record { one = one; there = there; young = young; spans = spans })
 ]
 
+-- a young name spans the stretch, or it falls to a name
 falls : (dated : List Dated) (cut : ℕ) (stretches : List Stretch) (claims : List Claim) → AreStretches dated cut stretches → AreClaims dated cut stretches claims → (k : ℕ) → k < length stretches
     → ((j : ℕ) × YoungSpans dated cut stretches j k) ⊎ ((p : ℕ) × (claim : Claim) × (slice_get claims p ≡ Some claim) × (claim.stretch ≡ k))
 falls dated cut stretches claims are are_claims k low =

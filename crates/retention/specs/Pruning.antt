@@ -27,11 +27,13 @@ pub record HasPruned (names : List FileName) (before now : List Event) : Type 0 
 
 -- whatever a crash now leaves has each of these files
 abbrev pub LeavesAll : List FileName → List Event → Type 0
-LeavesAll names events = (image : Files) → IsCrashImage events image → (name : FileName) → Contains names name → IsIn image name
+LeavesAll names events =
+    (image : Files) → IsCrashImage events image → (name : FileName) → Contains names name → IsIn image name
 
 -- Where a crash left all of the list's files, each of which stands in it once, each protected transaction is retained
 -- in whatever a crash left since.
 abbrev pub KeepsProtectedSince : List Dated → ℕ → List Event → List Event → Type 0
 KeepsProtectedSince dated cut before now =
     IsDistinct is_name (paths_of (names_of dated)) → LeavesAll (names_of dated) before
-    → (image : Files) → WasCrashImageSince now (length before) image → (t : ℕ) → IsProtected dated cut t → IsRetainedIn image t
+    → (image : Files) → WasCrashImageSince now (length before) image
+    → (t : ℕ) → IsProtected dated cut t → IsRetainedIn image t

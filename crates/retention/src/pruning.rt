@@ -15,7 +15,8 @@ use replica_store::{FileName, drop_file, settle};
 /// Removes the names in their order.
 fn drop_files<S: Disk>(store: &mut S, names: &[FileName]) -> Result<(), DiskFault>
     ensures files { GoesOn (S.told store.old) (S.told store.new) (MayDropAll (paths_of names.now)) }
-    ensures gone { OnOk result (GoesOn (S.told store.old) (S.told store.new) (HasDroppedTo names.now (length names.now))) }
+    ensures gone { OnOk result (GoesOn (S.told store.old) (S.told store.new)
+        (HasDroppedTo names.now (length names.now))) }
     ensures keeps { Keeps (S.folder store.old) (S.folder store.new) (S.given store.old) (S.given store.new) }
     ensures cause { HasCause (S.fault_count store.old) (S.fault_count store.new) result }
 {
