@@ -1,0 +1,11 @@
+pub mod FileLemmas
+pub mod PairLemmas
+pub mod RunLemmas
+pub mod ViewOfPair
+pub mod ReadingLemmas
+pub mod RestartLemmas
+pub mod ToldLemmas
+pub mod GatherLemmas
+pub mod FindLemmas
+pub mod CauseLemmas
+pub mod CopyLemmas

@@ -1,0 +1,9 @@
+pub mod CopiedState
+pub mod PairState
+pub mod Backfill
+pub mod Restart
+pub mod Fault
+pub mod Reading
+pub mod Gathering
+pub mod Finding
+pub mod Copying
