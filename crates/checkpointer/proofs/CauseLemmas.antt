@@ -1,5 +1,5 @@
 -- What a fault rests on, where other calls came before.
-use Rattle.std.proofs.Common.{◌≡◌, ℕ, ◌+◌, ◌≤◌, Result, Ok, Err, ap, arith}
+use Rattle.std.proofs.Common.{◌≡◌, ℕ, ◌≤◌, Result, Ok, Err, ap, arith}
 use Rattle.ls_base.specs.Fault.{Rose}
 use Rattle.checkpointer.specs.declared.fault.BackfillFault.{BackfillFault}
 use Rattle.checkpointer.specs.declared.fault.BackfillFault.TheVariants.{Disk}

@@ -5,7 +5,7 @@ use Rattle.std.proofs.lemmas.Bool.{cases_lt}
 use Rattle.std.proofs.lemmas.List.{get_or_append_left, get_or-append_right, get_or-take, get_or-drop, get_or_past, get_or-replicate, length-take, length-replicate}
 use Rattle.std.proofs.lemmas.List.FromFn.{length-map-range_with_len, get_or-map-range_with_len}
 use Rattle.crash_disk.specs.Files.{with_bytes_at, with_length}
-use Rattle.crash_disk.specs.FileState.{FileState, Range, IsInside, SomeOf, synced_file, written, resized, IsFileImage}
+use Rattle.crash_disk.specs.FileState.{FileState, Range, IsInside, SomeOf, written, resized, IsFileImage}
 
 -- ---- bytes
 

@@ -1,17 +1,16 @@
 -- Where a log begins, and what it has up to an offset.
-use Rattle.std.proofs.Common.{◌≡◌, ◌≢◌, ◌∙◌, ℕ, ◌+◌, ◌-◌, ◌<◌, ◌≤◌, min, Bool, true, false, not, List, [], ◌++◌, length, take, drop, Option, Some, None, Result, Ok, Err, sym, ap, subst, refl, inl, inr, arith, append-nil, length-drop}
+use Rattle.std.proofs.Common.{◌≡◌, ◌∙◌, ℕ, ◌-◌, ◌<◌, ◌≤◌, min, Bool, true, false, not, List, [], ◌++◌, length, take, drop, Option, Some, None, Ok, Err, sym, ap, subst, refl, arith, append-nil}
 use Rattle.std.specs.Option.{is_some}
 use Rattle.std.specs.List.{Contains}
-use Rattle.std.proofs.lemmas.List.{take_all, drop_all, length-take, take-append-drop}
+use Rattle.std.proofs.lemmas.List.{drop_all, length-take, take-append-drop}
 use Rattle.ls_base.specs.declared.mark.Mark.{Mark}
-use Rattle.wal_frames.specs.declared.header.WalHeader.{WalHeader}
 use Rattle.wal_frames.specs.declared.fault.WalHeaderFault.{WalHeaderFault}
 use Rattle.wal_frames.specs.WalFormat.{read_header}
 use Rattle.wal_frames.specs.Marks.{marks_of, IsMark, last_mark_of}
 use Rattle.wal_frames.specs.Scanned.{Scanned, HasTaken}
 use Rattle.checkpointer.specs.Reading.{IsNewer}
 use Rattle.checkpointer.proofs.RestartLemmas.{is_last, none_last}
-use Rattle.wal_frames.proofs.AcceptedLemmas.{Accepts, accepts, read_header-append}
+use Rattle.wal_frames.proofs.AcceptedLemmas.{accepts, read_header-append}
 use Rattle.wal_frames.proofs.LogLemmas.{accepted_by_mark, cut_keeps, ends_within, last_is_greatest, last_is_mark}
 use Rattle.wal_frames.proofs.ViewLemmas.{mark_long}
 

@@ -1,15 +1,14 @@
 -- One frame more, and where its page stands.
-use Rattle.std.proofs.Common.{◌≡◌, ◌≢◌, ◌∙◌, ℕ, ◌+◌, ◌-◌, ◌*◌, ◌≤◌, Bool, true, false, cond, eqb, ltb, is_eq, Less, Equal, Greater, List, [], ◌∷◌, ◌++◌, length, take, drop, Option, Some, None, Ok, sym, ap, subst, refl, inl, inr, arith, length-append}
+use Rattle.std.proofs.Common.{◌≡◌, ◌∙◌, ℕ, ◌+◌, ◌-◌, ◌≤◌, Bool, true, false, cond, eqb, ltb, is_eq, Less, Equal, Greater, List, [], ◌∷◌, ◌++◌, length, take, drop, Option, Some, None, sym, ap, subst, refl, inl, inr, arith, length-append}
 use Rattle.std.specs.Option.{option_or}
 use Rattle.std.specs.Ordering.{nat_cmp}
 use Rattle.std.specs.BTreeMap.{BTreeMap, get, Updates, is_at}
 use Rattle.std.specs.Map.{lookup}
 use Rattle.std.proofs.lemmas.Bool.{cases_eq, eq-eqb, ne_eqb}
-use Rattle.std.proofs.lemmas.List.{drop-take, drop-drop, drop-append-le, take-append-le, take-append-drop, length-drop}
+use Rattle.std.proofs.lemmas.List.{drop-take, drop-drop, drop-append-le, take-append-le, length-drop}
 use Rattle.wal_frames.specs.declared.header.WalHeader.{WalHeader}
-use Rattle.wal_frames.specs.WalFormat.{read_header}
 use Rattle.wal_frames.specs.WalFrame.{frame_length, page_number, frame_page}
-use Rattle.wal_frames.specs.ValidPrefix.{valid_behind, whole_frames, frames_under, valid_frames}
+use Rattle.wal_frames.specs.ValidPrefix.{valid_behind, whole_frames, valid_frames}
 use Rattle.wal_frames.proofs.CutLemmas.{quotient}
 use Rattle.wal_frames.specs.Marks.{end_of}
 use Rattle.wal_frames.specs.View.{frames_page}
@@ -17,7 +16,7 @@ use Rattle.wal_frames.specs.Scanned.{Scanned, HasTaken, EndsFrame}
 use Rattle.wal_frames.specs.LogLaws.{StandsAt}
 use Rattle.wal_frames.proofs.MarkLemmas.{valid_is, end-more}
 use Rattle.wal_frames.proofs.LogLemmas.{frame_stands}
-use Rattle.checkpointer.specs.Gathering.{StandsFrom, AreOffsets, HasGathered}
+use Rattle.checkpointer.specs.Gathering.{StandsFrom, HasGathered}
 
 -- the page of the last frame counts
 or_last : (last : Bool) (page : List ℕ) (older : Option (List ℕ)) (first : Option (List ℕ)) → option_or (cond last (Some page) older) first ≡ cond last (Some page) (option_or older first)

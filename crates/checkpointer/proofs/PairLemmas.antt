@@ -1,21 +1,19 @@
 -- Two files of a disk by their numbers, while their bytes change.
-use Rattle.std.proofs.Common.{◌≡◌, ◌≢◌, ◌∙◌, ℕ, ◌⊎◌, Bool, true, false, cond, eqb, List, [], ◌∷◌, length, Option, Some, None, unwrap_or, IsSome, sym, ap, subst, refl, inl, inr, arith}
-use Rattle.std.specs.Cmp.Lexicographic.{slice_cmp}
-use Rattle.std.specs.Ordering.{nat_cmp}
-use Rattle.std.specs.FinMap.{get, insert}
+use Rattle.std.proofs.Common.{◌≡◌, ◌≢◌, ◌∙◌, ℕ, true, false, eqb, List, [], ◌∷◌, Option, Some, None, unwrap_or, IsSome, sym, ap, subst, refl, inl, inr}
+use Rattle.std.specs.FinMap.{get}
 use Rattle.std.proofs.lemmas.Bool.{eq-eqb, ne_eqb}
 use Rattle.crash_disk.specs.declared.event.Event.{Event}
 use Rattle.crash_disk.specs.declared.event.Event.TheVariants.{Placed, Wrote, Cut, Synced}
-use Rattle.crash_disk.specs.Files.{Files, files_after, file_at, is_name, IsThere}
+use Rattle.crash_disk.specs.Files.{Files, files_after, file_at}
 use Rattle.crash_disk.specs.FileState.{FileState, SomeOf, synced_file, written, resized, IsFileImage}
-use Rattle.crash_disk.specs.Numbers.{number_at, numbers_at, file_of, is_number, changed_at}
-use Rattle.crash_disk.specs.Images.{IsImageOf, MayStandAt, IsCrashImage, WasCrashImageSince}
+use Rattle.crash_disk.specs.Numbers.{number_at, numbers_at, file_of, changed_at}
+use Rattle.crash_disk.specs.Images.{IsImageOf, MayStandAt, IsCrashImage}
 use Rattle.crash_disk.proofs.ReadFiles.{bytes_by, file_at-numbered}
 use Rattle.crash_disk.proofs.FileLaws.{file_at-Placed-here, file_at-Placed-other}
 use Rattle.crash_disk.proofs.NumberLaws.{by_names}
 use Rattle.crash_disk.proofs.DistinctNumbers.{number_at-distinct}
 use Rattle.crash_disk.proofs.ImageLaws.{reads_as_image, MayStandAt-reads}
-use Rattle.checkpointer.specs.PairState.{bytes_in, bytes_at, IsNamed, AreNamed}
+use Rattle.checkpointer.specs.PairState.{bytes_in, IsNamed, AreNamed}
 
 -- ---- one file
 

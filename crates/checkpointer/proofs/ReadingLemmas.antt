@@ -1,7 +1,7 @@
 -- Pieces of a log, one behind the other.
 use Rattle.wal_frames.specs.Scanned.{Scanned, HasTaken}
 use Rattle.checkpointer.specs.Reading.{ReadsOn}
-use Rattle.std.proofs.Common.{◌≡◌, ◌∙◌, ℕ, ◌+◌, ◌-◌, ◌≤◌, List, [], ◌++◌, Option, Some, None, option_map, unwrap_or, length, take, drop, sym, ap, subst, refl, arith, length-append, length-drop, append_assoc}
+use Rattle.std.proofs.Common.{◌≡◌, ◌∙◌, ℕ, ◌+◌, ◌-◌, ◌≤◌, List, [], ◌++◌, Option, Some, None, option_map, unwrap_or, length, take, drop, sym, ap, subst, arith, length-drop, append_assoc}
 use Rattle.std.proofs.Math.Seq.{take-add}
 use Rattle.std.proofs.lemmas.List.{drop-drop, take_rest, take_all, take-append-drop}
 

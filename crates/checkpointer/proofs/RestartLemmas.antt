@@ -1,5 +1,5 @@
 -- What is left where a log is cut to nothing.
-use Rattle.std.proofs.Common.{◌≡◌, ◌≢◌, ◌∙◌, ℕ, ◌<◌, ◌≤◌, ◌⊎◌, List, [], ◌∷◌, length, take, Option, Some, None, Ok, Err, unwrap_or, sym, ap, subst, refl, inl, inr, arith}
+use Rattle.std.proofs.Common.{◌≡◌, ◌≢◌, ◌∙◌, ℕ, ◌≤◌, ◌⊎◌, List, [], ◌∷◌, length, take, Option, Some, None, Ok, Err, unwrap_or, sym, ap, subst, refl, inl, inr, arith}
 use Rattle.std.specs.FinMap.{get}
 use Rattle.std.specs.List.{Contains, last_or}
 use Rattle.std.proofs.lemmas.List.{nil_from_length}
@@ -8,12 +8,12 @@ use Rattle.ls_base.specs.declared.mark.Mark.{Mark}
 use Rattle.crash_disk.specs.declared.event.Event.{Event}
 use Rattle.crash_disk.specs.declared.event.Event.TheVariants.{Cut, Synced}
 use Rattle.crash_disk.specs.declared.fault.DiskFault.{DiskFault}
-use Rattle.crash_disk.specs.Files.{Files, files_after, file_at, with_length}
-use Rattle.crash_disk.specs.FileState.{FileState, Range, IsInside, SomeOf, synced_file, resized, IsFileImage}
+use Rattle.crash_disk.specs.Files.{Files, files_after, with_length}
+use Rattle.crash_disk.specs.FileState.{FileState, IsInside, SomeOf, synced_file, resized, IsFileImage}
 use Rattle.crash_disk.specs.Told.{Told, IfTold, gains, GainsOrNot}
 use Rattle.crash_disk.specs.GoesOn.{GoesOn}
 use Rattle.crash_disk.proofs.GoesOnLemmas.{grown_same, grown_by, grown_then, goes_on-same}
-use Rattle.crash_disk.specs.Images.{IsCrashImage, WasCrashImageSince}
+use Rattle.crash_disk.specs.Images.{IsCrashImage}
 use Rattle.crash_disk.proofs.FileLaws.{file_at-Cut-other, file_at-Synced}
 use Rattle.crash_disk.proofs.ImageLaws.{IsCrashImage-reads}
 use Rattle.crash_disk.proofs.Moments.{since_more, since_start}
@@ -26,13 +26,13 @@ use Rattle.wal_frames.proofs.AcceptedLemmas.{accepts}
 use Rattle.wal_frames.proofs.MarkLemmas.{mark_stands}
 use Rattle.wal_frames.proofs.BackLemmas.{has_gone_back}
 use Rattle.wal_frames.proofs.LogLemmas.{ends_within, last_is_mark, last_is_greatest, one_mark_an_end}
-use Rattle.wal_frames.specs.View.{view_at, view_at_rest}
+use Rattle.wal_frames.specs.View.{view_at_rest}
 use Rattle.checkpointer.specs.CopiedState.{CopiedState}
-use Rattle.checkpointer.specs.PairState.{view_by, state_of_pair, bytes_in, bytes_at, state_in, StatesWere, LeavesState}
+use Rattle.checkpointer.specs.PairState.{state_of_pair, bytes_in, bytes_at, state_in, StatesWere, LeavesState}
 use Rattle.checkpointer.specs.declared.fault.RestartFault.TheVariants.{Disk, Grown}
 use Rattle.checkpointer.specs.Reading.{IsNewer}
 use Rattle.checkpointer.specs.Restart.{MayRestart, KeepsAllBut, HasRestarted, Restarts}
-use Rattle.checkpointer.proofs.PairLemmas.{reads, itself, LeavesImage, leaves_image, HasPair, IsPair, has_pair, pair-Cut_log, pair-Synced_log, both_image}
+use Rattle.checkpointer.proofs.PairLemmas.{reads, itself, leaves_image, HasPair, IsPair, has_pair, pair-Cut_log, pair-Synced_log, both_image}
 use Rattle.checkpointer.proofs.ViewOfPair.{state_at_mark}
 
 no_marks : marks_of [] ≡ []

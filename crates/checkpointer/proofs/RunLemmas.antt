@@ -1,9 +1,8 @@
 -- A run of changes of the database file, behind a log that is synced: what a crash since left.
-use Rattle.std.proofs.Common.{◌≡◌, ◌≢◌, ◌∙◌, ℕ, ◌+◌, ◌<◌, ◌≤◌, ◌⊎◌, List, [], ◌∷◌, length, Option, Some, unwrap_or, get_or, sym, ap, subst, refl, inl, inr, arith}
-use Rattle.std.specs.FinMap.{get}
+use Rattle.std.proofs.Common.{◌≡◌, ◌≢◌, ◌∙◌, ℕ, ◌+◌, ◌<◌, ◌≤◌, ◌⊎◌, List, [], ◌∷◌, length, Option, unwrap_or, get_or, sym, ap, subst, refl, inl, inr}
 use Rattle.crash_disk.specs.declared.event.Event.{Event}
 use Rattle.crash_disk.specs.declared.event.Event.TheVariants.{Wrote, Cut, Synced}
-use Rattle.crash_disk.specs.Files.{Files, file_at, with_bytes_at, with_length}
+use Rattle.crash_disk.specs.Files.{Files, file_at}
 use Rattle.crash_disk.specs.FileState.{FileState, SomeOf, synced_file, written, resized, IsFileImage}
 use Rattle.crash_disk.specs.Images.{IsCrashImage, WasCrashImageSince}
 use Rattle.crash_disk.proofs.FileLaws.{file_at-Wrote-other, file_at-Cut-other, file_at-Synced}
@@ -11,7 +10,7 @@ use Rattle.crash_disk.proofs.Moments.{since_more, since_start}
 use Rattle.crash_disk.proofs.SettledLaws.{IsFileImage-settled}
 use Rattle.checkpointer.specs.PairState.{bytes_in}
 use Rattle.checkpointer.proofs.FileLemmas.{AgreeAt, ChangedApart, IsLikeBefore, like_before, apart_same, apart_written, apart_resized, get-written, get-resized}
-use Rattle.checkpointer.proofs.PairLemmas.{IsFile, reads, itself, leaves_image, HasPair, pair-Synced_log, pair-Synced, pair-Wrote, pair-Cut, OldImage, old_image}
+use Rattle.checkpointer.proofs.PairLemmas.{itself, leaves_image, HasPair, pair-Synced_log, pair-Synced, pair-Wrote, pair-Cut, old_image}
 
 module _ (Kept : ℕ → Type 0) (db wal log : List ℕ) where
   -- an image of before has this log, and agrees at the places that are kept

@@ -1,5 +1,5 @@
 -- What holds of the record after one more change.
-use Rattle.std.proofs.Common.{◌≡◌, ◌∙◌, ℕ, List, ◌∷◌, Option, Some, None, IsSome, false, true, sym, ap, subst, refl}
+use Rattle.std.proofs.Common.{◌≡◌, ◌∙◌, ℕ, List, ◌∷◌, Option, Some, None, IsSome, sym, subst, refl}
 use Rattle.crash_disk.specs.declared.event.Event.{Event}
 use Rattle.crash_disk.specs.declared.event.Event.TheVariants.{Cut}
 use Rattle.crash_disk.specs.Files.{file_at, IsThere}

@@ -1,28 +1,22 @@
 -- The state of a pair by the places of the database file that it reads.
-use Rattle.std.proofs.Common.{◌≡◌, ◌≢◌, ◌∙◌, ℕ, zero, suc, ◌+◌, ◌-◌, ◌*◌, ◌<◌, ◌≤◌, ◌⊎◌, Bool, true, false, cond, eqb, List, [], ◌∷◌, ◌++◌, length, take, drop, map, replicate, Option, Some, None, unwrap_or, Ok, get_or, sym, ap, subst, refl, inl, inr, arith, length-append}
+use Rattle.std.proofs.Common.{◌≡◌, ◌≢◌, ◌∙◌, ℕ, zero, suc, ◌+◌, ◌-◌, ◌*◌, ◌<◌, ◌≤◌, Bool, true, false, cond, eqb, List, ◌∷◌, ◌++◌, drop, map, replicate, Option, Some, None, unwrap_or, Ok, get_or, sym, ap, subst, refl, inl, inr, arith}
 use Rattle.std.specs.List.{range_with_len}
 use Rattle.std.proofs.Math.Nat.{add-mul}
-use Rattle.std.proofs.lemmas.Bool.{eqb-false, eq-eqb}
-use Rattle.std.proofs.lemmas.List.{ext_get_or, get_or-take, get_or-drop, length-replicate, length-take-le}
+use Rattle.std.proofs.lemmas.Bool.{eqb-false}
+use Rattle.std.proofs.lemmas.List.{ext_get_or, get_or-take, get_or-drop}
 use Rattle.ls_base.specs.PageSize.{lock_page}
-use Rattle.ls_base.specs.State.{State}
 use Rattle.ls_base.specs.declared.mark.Mark.{Mark}
 use Rattle.crash_disk.specs.declared.event.Event.{Event}
-use Rattle.crash_disk.specs.Files.{Files}
-use Rattle.crash_disk.specs.FileState.{FileState, SomeOf, IsFileImage}
-use Rattle.crash_disk.specs.Images.{IsCrashImage, WasCrashImageSince}
 use Rattle.wal_frames.specs.declared.header.WalHeader.{WalHeader}
 use Rattle.wal_frames.specs.WalFormat.{read_header}
-use Rattle.wal_frames.specs.ValidPrefix.{frames_under, valid_frames}
+use Rattle.wal_frames.specs.ValidPrefix.{frames_under}
 use Rattle.wal_frames.specs.Marks.{last_mark_of}
-use Rattle.wal_frames.specs.View.{frames_to, frames_page, file_page, unless_locked, page_at_mark, view_under, view_at}
-use Rattle.wal_frames.proofs.MarkLemmas.{valid_is}
+use Rattle.wal_frames.specs.View.{frames_to, frames_page, file_page, page_at_mark, view_at}
 use Rattle.wal_frames.proofs.LogLemmas.{accepted_by_mark, last_is_mark}
 use Rattle.wal_frames.proofs.ViewLemmas.{length-file_page, view_is}
-use Rattle.checkpointer.specs.PairState.{log_page_size, view_by, state_of_pair, bytes_in, bytes_at, state_in, StatesWere, IsFromFile, ArePagesWhole}
+use Rattle.checkpointer.specs.PairState.{log_page_size, view_by, state_of_pair, bytes_in, StatesWere, IsFromFile}
 use Rattle.checkpointer.proofs.FileLemmas.{AgreeAt, get-padded}
-use Rattle.checkpointer.proofs.PairLemmas.{HasPair, OldImage, old_image}
-use Rattle.checkpointer.proofs.RunLemmas.{IsAlike, WereAlike, IsLong}
+use Rattle.checkpointer.proofs.RunLemmas.{WereAlike}
 
 -- a place of a page that the mark leaves to the database file
 pub record IsKept (log : List ℕ) (mark : Mark) (place : ℕ) : Type 0 where

@@ -1,6 +1,5 @@
 -- What `backfill` leaves: as read, and in what a crash leaves.
-use Rattle.std.specs.Prelude.{◌≡◌, ◌≢◌, ◌⊎◌, ℕ, ◌*◌, ◌≤◌, List, length, Option, Some, Ok, Err, Result}
-use Rattle.ls_base.specs.State.{State}
+use Rattle.std.specs.Prelude.{◌≡◌, ◌≢◌, ◌⊎◌, ℕ, ◌*◌, ◌≤◌, List, length, Some, Ok, Err, Result}
 use Rattle.ls_base.specs.PageSize.{lock_page}
 use Rattle.ls_base.specs.declared.mark.Mark.{Mark}
 use Rattle.crash_disk.specs.declared.event.Event.{Event}

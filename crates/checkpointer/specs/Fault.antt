@@ -1,5 +1,5 @@
 -- What a fault of a checkpoint rests on.
-use Rattle.std.specs.Prelude.{◌≡◌, ℕ, ◌≤◌, Result, IsErrOf}
+use Rattle.std.specs.Prelude.{ℕ, ◌≤◌, Result, IsErrOf}
 use Rattle.ls_base.specs.Fault.{Rose}
 use Rattle.crash_disk.specs.declared.fault.DiskFault.{DiskFault}
 use Rattle.checkpointer.specs.declared.fault.BackfillFault.{BackfillFault}

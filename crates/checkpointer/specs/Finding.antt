@@ -1,12 +1,11 @@
 -- What a log has up to an offset.
-use Rattle.std.specs.Prelude.{◌≡◌, ◌≢◌, ℕ, ◌<◌, ◌≤◌, Bool, true, List, length, take, Some, Ok, Err, Result, IsOk}
+use Rattle.std.specs.Prelude.{◌≡◌, ◌≢◌, ℕ, ◌≤◌, Bool, true, List, length, take, Some, Ok, Err, Result}
 use Rattle.std.specs.BTreeMap.{BTreeMap}
 use Rattle.ls_base.specs.declared.mark.Mark.{Mark}
 use Rattle.wal_frames.specs.declared.header.WalHeader.{WalHeader}
 use Rattle.wal_frames.specs.WalFormat.{read_header}
 use Rattle.wal_frames.specs.ValidPrefix.{valid_frames}
 use Rattle.wal_frames.specs.Marks.{IsMark, last_mark_of}
-use Rattle.wal_frames.specs.Scanned.{Scanned, scanned_to}
 use Rattle.checkpointer.specs.declared.fault.BackfillFault.{BackfillFault}
 use Rattle.checkpointer.specs.declared.fault.BackfillFault.TheVariants.{Disk, NotMark, Memory}
 use Rattle.checkpointer.specs.Gathering.{AreOffsets}

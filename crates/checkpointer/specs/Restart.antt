@@ -1,7 +1,5 @@
 -- What `restart` leaves: as read, and in what a crash leaves.
-use Rattle.std.specs.Prelude.{◌≡◌, ◌≢◌, ℕ, ◌<◌, List, [], length, Option, Some, Ok, Err, Result}
-use Rattle.ls_base.specs.State.{State}
-use Rattle.ls_base.specs.declared.mark.Mark.{Mark}
+use Rattle.std.specs.Prelude.{◌≡◌, ◌≢◌, ℕ, ◌<◌, List, [], Some, Ok, Err, Result}
 use Rattle.crash_disk.specs.declared.event.Event.{Event}
 use Rattle.crash_disk.specs.Files.{Files, files_after, file_at}
 use Rattle.crash_disk.specs.Images.{IsCrashImage}

@@ -1,4 +1,4 @@
-use Rattle.std.proofs.Common.{◌≡◌, ◌∙◌, ◌-◌, ◌*◌, ℕ, List, length, take, drop, sym, ap, refl, arith}
+use Rattle.std.proofs.Common.{◌≡◌, ◌∙◌, ◌-◌, ◌*◌, ℕ, length, take, drop, ap, arith}
 use Rattle.checkpointer.specs.PairState.{bytes_at}
 use Rattle.checkpointer.proofs.CopyLemmas.{page_is, page_copied, page_maybe}
 use Rattle.checkpointer.proofs.copying.copy_page.Goals as goal

@@ -1,4 +1,4 @@
-use Rattle.std.proofs.Common.{◌≡◌, ◌∙◌, List, ℕ, length, take, refl, ap, sym, subst, arith, Err}
+use Rattle.std.proofs.Common.{◌∙◌, refl, ap, sym, arith}
 use Rattle.wal_frames.specs.WalFormat.{read_header}
 use Rattle.checkpointer.specs.PairState.{bytes_at}
 use Rattle.checkpointer.proofs.FindLemmas.{short_has_none, refused_has_none, front_is}

@@ -1,6 +1,5 @@
-use Rattle.std.proofs.Common.{◌≡◌, ◌∙◌, List, ℕ, Result, Err, Some, length, take, refl, ap, sym, subst, arith}
+use Rattle.std.proofs.Common.{◌≡◌, ◌∙◌, Err, Some, length, sym, subst, arith}
 use Rattle.crash_disk.specs.Files.{file_at}
-use Rattle.wal_frames.specs.declared.header.WalHeader.{WalHeader}
 use Rattle.wal_frames.proofs.LogLemmas.{ends_within}
 use Rattle.checkpointer.specs.declared.fault.BackfillFault.{BackfillFault}
 use Rattle.checkpointer.specs.declared.fault.BackfillFault.TheVariants.{NotMark}

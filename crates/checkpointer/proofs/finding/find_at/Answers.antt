@@ -1,7 +1,5 @@
-use Rattle.std.proofs.Common.{◌≡◌, ◌∙◌, ◌++◌, Bool, true, List, ℕ, Option, Some, None, Ok, length, take, drop, refl, ap, sym, subst, arith}
-use Rattle.std.specs.Option.{is_some}
+use Rattle.std.proofs.Common.{◌≡◌, ◌∙◌, List, ℕ, Some, Ok, length, take, drop, refl, ap, sym, subst, arith}
 use Rattle.std.proofs.lemmas.List.{length-take-le, take-append-drop}
-use Rattle.ls_base.specs.declared.mark.Mark.{Mark}
 use Rattle.wal_frames.specs.WalFormat.{read_header}
 use Rattle.wal_frames.specs.Marks.{IsMark, last_mark_of}
 use Rattle.std.specs.Ordering.{nat_cmp}
@@ -11,7 +9,7 @@ use Rattle.wal_frames.specs.ValidPrefix.{valid_frames}
 use Rattle.wal_frames.specs.View.{frames_page}
 use Rattle.wal_frames.specs.Scanned.{Scanned}
 use Rattle.wal_frames.proofs.AcceptedLemmas.{read_header-append}
-use Rattle.wal_frames.proofs.LogLemmas.{last_is_mark, stays_mark, ends_within}
+use Rattle.wal_frames.proofs.LogLemmas.{last_is_mark, stays_mark}
 use Rattle.checkpointer.specs.PairState.{bytes_at}
 use Rattle.checkpointer.specs.Gathering.{HasGathered, StandsFrom}
 use Rattle.checkpointer.proofs.FindLemmas.{last_by, has_a_last, last_ends}

@@ -1,4 +1,4 @@
-use Rattle.std.proofs.Common.{◌≡◌, ◌-◌, ◌++◌, List, ℕ, length, take, drop, refl, ap, sym, subst, ◌∙◌, arith, append-nil}
+use Rattle.std.proofs.Common.{◌≡◌, ◌-◌, ◌++◌, List, ℕ, length, take, refl, ap, sym, subst, ◌∙◌, arith, append-nil}
 use Rattle.wal_frames.specs.declared.header.WalHeader.{WalHeader}
 use Rattle.checkpointer.specs.Gathering.{HasGathered}
 use Rattle.checkpointer.proofs.ReadingLemmas.{rest_next, short_next, taken_next, done_next, all_done}

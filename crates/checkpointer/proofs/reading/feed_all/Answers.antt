@@ -1,4 +1,4 @@
-use Rattle.std.proofs.Common.{◌≡◌, ◌-◌, ◌++◌, List, ℕ, length, take, drop, refl, ap, sym, subst, ◌∙◌, arith, append-nil}
+use Rattle.std.proofs.Common.{◌≡◌, ◌-◌, ◌++◌, List, ℕ, length, take, refl, subst, ◌∙◌, arith, append-nil}
 use Rattle.wal_frames.specs.Scanned.{HasTaken}
 use Rattle.checkpointer.proofs.ReadingLemmas.{rest_next, short_next, taken_next, done_next}
 use Rattle.checkpointer.proofs.reading.feed_all.Goals as goal

@@ -1,4 +1,4 @@
-use Rattle.std.proofs.Common.{◌≡◌, ◌≤◌, ◌∙◌, List, ℕ, Option, Some, None, length, take, refl, ap, sym, subst, arith}
+use Rattle.std.proofs.Common.{◌≡◌, ◌∙◌, Some, None, length, ap, sym, arith}
 use Rattle.ls_base.specs.declared.mark.Mark.{Mark}
 use Rattle.crash_disk.specs.Files.{file_at}
 use Rattle.checkpointer.specs.PairState.{bytes_at}

@@ -1,4 +1,4 @@
-use Rattle.std.proofs.Common.{◌≡◌, ℕ, ◌+◌, ◌-◌, ◌≤◌, List, length, take}
+use Rattle.std.proofs.Common.{◌≡◌, ◌+◌, ◌-◌, ◌≤◌, length, take}
 use Rattle.crash_disk.specs.Told.{IfTold}
 use Rattle.wal_frames.specs.Scanned.{HasTaken}
 use Rattle.checkpointer.specs.PairState.{bytes_at}

@@ -1,6 +1,5 @@
-use Rattle.std.proofs.Common.{◌≡◌, ◌∙◌, ℕ, Option, Some, None, ap, subst, sym}
+use Rattle.std.proofs.Common.{◌≡◌, ◌∙◌, ℕ, Option, Some, None, ap, subst}
 use Rattle.ls_base.specs.declared.mark.Mark.{Mark}
-use Rattle.crash_disk.specs.Told.{IfTold}
 use Rattle.wal_frames.specs.Scanned.{scanned_to}
 use Rattle.checkpointer.specs.CopiedState.{CopiedState}
 use Rattle.checkpointer.specs.PairState.{bytes_at}
