@@ -1,1 +1,2 @@
 pub mod BeingPut
+pub mod Steps

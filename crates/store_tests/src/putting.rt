@@ -7,9 +7,9 @@ use crash_disk::{DiskFault, MemDisk};
 use replica_store::{FileName, Put};
 
 /// The pieces of the file, and the whole of it.
-const FIRST: &str = "first ";
+const FIRST: &[u8; 6] = b"first ";
 
-const SECOND: &str = "second";
+const SECOND: &[u8; 6] = b"second";
 
 pub const WHOLE: &str = "first second";
 
@@ -24,11 +24,11 @@ pub fn begun(store: &mut MemDisk, name: &FileName) -> Result<Put, DiskFault>
 }
 
 /// Puts one piece more, and abandons the file at a fault.
-pub fn put_more(mut put: Put, store: &mut MemDisk, piece: &str) -> Result<Put, DiskFault>
+pub fn put_more(mut put: Put, store: &mut MemDisk, piece: &[u8]) -> Result<Put, DiskFault>
     requires putting { IsBeingPut put store.old.events }
     ensures putting { IfOk result (λ put. IsBeingPut put store.new.events) }
 {
-    match put.append(store, piece.as_bytes()) {
+    match put.append(store, piece) {
         Ok(()) => Ok(put),
         Err(fault) => {
             put.abandon(store)?;
@@ -44,12 +44,22 @@ fn finished(put: Put, store: &mut MemDisk) -> Result<(), DiskFault>
     put.finish(store)
 }
 
+/// Puts a file in two pieces.
+pub fn put_pieces(
+    store: &mut MemDisk,
+    name: &FileName,
+    first: &[u8],
+    second: &[u8],
+) -> Result<(), DiskFault> {
+    let put = begun(store, name)?;
+    let put = put_more(put, store, first)?;
+    let put = put_more(put, store, second)?;
+    finished(put, store)
+}
+
 /// Puts the file in two pieces.
 pub fn put_in_two(store: &mut MemDisk, name: &FileName) -> Result<(), DiskFault> {
-    let put = begun(store, name)?;
-    let put = put_more(put, store, FIRST)?;
-    let put = put_more(put, store, SECOND)?;
-    finished(put, store)
+    put_pieces(store, name, FIRST, SECOND)
 }
 
 /// Puts the first piece of the file and abandons it.

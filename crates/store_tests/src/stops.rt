@@ -1,8 +1,8 @@
 //! A put that a stop of the machine cuts off, and what a crash then leaves.
 
-use crate::content::{PATH, name_of, reads};
-use crate::putting::{CALLS, WHOLE, put_in_two};
-use crash_disk::{Disk, MemDisk};
+use crate::content::{WHOLE_PATH, has_bytes, name_of, whole_file};
+use crate::putting::{CALLS, put_pieces};
+use crash_disk::MemDisk;
 use std::alloc::Global;
 use std::process::Abort;
 use std::test::Fail;
@@ -10,31 +10,41 @@ use std::test::Fail;
 /// How many calls a put has made once it has renamed the file. The sync of the names comes behind it.
 const RENAMED: u64 = 6;
 
-/// Whether the file is there after a put that was stopped behind so many calls, and a crash by a choice; none
-/// where the choice may leave it or not.
+/// Where the first of the two pieces ends.
+const HALF: usize = 579;
+
+/// Whether a name that was changed by a call, and brought to the disk by the one behind it, is as changed after so
+/// many calls and a crash by the choice; none where the choice may leave it so or not.
 ///
 /// Choice 0 takes no change of a name that wasn't synced, and choices 1 and 2 take all of them.
-fn stands(calls: u64, choice: u64) -> Option<bool> {
-    match (calls, choice) {
-        (CALLS, _) | (RENAMED, 1 | 2) => Some(true),
-        (RENAMED, 0) => Some(false),
-        (RENAMED, _) => None,
-        _ => Some(false),
+pub fn is_changed(calls: u64, changed: u64, synced: u64, choice: u64) -> Option<bool> {
+    if calls < changed || calls >= synced {
+        return Some(calls >= synced);
+    }
+    match choice {
+        0 => Some(false),
+        1 | 2 => Some(true),
+        _ => None,
     }
 }
 
 fn check(rt: &impl Abort, alloc: Global, calls: u64, choice: u64) -> Result<(), Fail> {
-    let name = name_of(PATH)?;
+    let name = name_of(WHOLE_PATH)?;
+    let file = whole_file(alloc)?;
+    if file.len() != 1158 {
+        return Err(Fail::from("the file has 1158 bytes"));
+    }
+    let (first, second) = file.as_slice().split_at(HALF);
     let mut store = MemDisk::new(alloc);
     store.stop_after(calls);
-    let done = put_in_two(&mut store, &name).is_ok();
+    let done = put_pieces(&mut store, &name, first, second).is_ok();
     assert_eq!(rt; done, calls == CALLS, "stop after {calls}");
     store.crash(choice)?;
-    let whole = reads(alloc, &mut store, &name, Some(WHOLE))?;
-    let absent = reads(alloc, &mut store, &name, None)?;
+    let whole = has_bytes(alloc, &mut store, &name, Some(file.as_slice()))?;
+    let absent = has_bytes(alloc, &mut store, &name, None)?;
     assert!(rt; whole || absent, "stop after {calls}, choice {choice}");
     assert_eq!(rt;
-        stands(calls, choice).unwrap_or(whole),
+        is_changed(calls, RENAMED, CALLS, choice).unwrap_or(whole),
         whole,
         "stop after {calls}, choice {choice}"
     );
