@@ -37,11 +37,7 @@ pub fn put_both(
 }
 
 /// Drops two files, and brings the names to the disk.
-pub fn drop_both(
-    store: &mut MemDisk,
-    first: &FileName,
-    second: &FileName,
-) -> Result<(), DiskFault>
+pub fn drop_both(store: &mut MemDisk, first: &FileName, second: &FileName) -> Result<(), DiskFault>
     ensures ok { OnOk result (DropsBoth first.now second.now store.old.events store.new.events) }
     ensures err { OnErr result (MayDropBoth first.now second.now store.old.events store.new.events) }
 {
