@@ -15,5 +15,5 @@ pub mod Theorems
 pub mod FileFaults
 pub mod FrontLemmas
 pub mod PutLemmas
-pub mod UpToLemmas
+pub mod WalkLemmas
 pub mod StandardFacts

@@ -84,7 +84,7 @@ blocks-from_found size commit last (block ∷ blocks) sorted each =
 next_above : (number first last : ℕ) → (number ≡ first → ⊥) → last < number → first ≤ last + 1 → first < number
 next_above number first last ne low next = omega arith
 
-few : (size commit last : ℕ) (blocks : Blocks) → AreBlocks size commit last blocks → length blocks ≤ commit - last
+pub few : (size commit last : ℕ) (blocks : Blocks) → AreBlocks size commit last blocks → length blocks ≤ commit - last
 few size commit last [] are = omega arith
 few size commit last (block ∷ blocks) are =
     let above = are.0.above in

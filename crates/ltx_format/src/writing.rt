@@ -88,8 +88,10 @@ fn put_pages(out: &mut Bytes, header: &LtxHeader, pages: &ChangePages) -> Result
     requires { ArePages header.now pages.now }
     ensures { OnOk result (out.new ≡ out.old ++ page_blocks pages.now) }
 {
-    for before in 0..header.commit {
-        let number = before + 1;
+    for at in 0..header.commit {
+        let Some(number) = pages.number_at(u64::from(at)) else {
+            return Ok(());
+        };
         if let Some(page) = pages.get(number) {
             put_block(out, number, page)?;
         }

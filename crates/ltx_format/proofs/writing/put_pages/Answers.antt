@@ -1,38 +1,36 @@
-use Rattle.std.proofs.Common.{◌++◌, ◌+◌, List, ℕ, sym, ap, ◌∙◌, append_assoc}
-use Rattle.std.proofs.lemmas.List.{append-nil}
+use Rattle.std.proofs.Common.{ℕ, List, ◌++◌, take, sym, ap, ◌∙◌, append_assoc}
+use Rattle.std.specs.List.{flat_map, slice_get}
+use Rattle.std.specs.FinMap.{entries, keys, get-entries}
 use Rattle.ltx_format.specs.LtxFormat.{page_block}
+use Rattle.ltx_format.proofs.BlockLoop.{Blocks}
 use Rattle.ltx_format.proofs.PageLemmas.{blocks-from_pages}
-use Rattle.ltx_format.proofs.UpToLemmas.{put_up_to, nothing_put, block_put, no_block_put, last_put}
-use Rattle.ltx_format.proofs.writing.put_pages.Goals.{in-Some+in_ok-put_block, in_default}
+use Rattle.ltx_format.proofs.WalkLemmas.{block_at_place, all_put, put_more, same_page, some_not_none}
+use Rattle.ltx_format.proofs.writing.put_pages.Goals.{in-Some-get+in_ok-put_block, in_default-get}
 use Rattle.ltx_format.proofs.writing.put_pages.Goals as goal
 
-pub loop-before-init : goal.loop-before-init
-loop-before-init c =
-    let are = (blocks-from_pages c.args.header.now c.args.pages.now c.requires).0 in
-    rw (nothing_put c.args.header.now.size c.args.header.now.commit c.args.pages.now are) (sym (append-nil c.args.out.now))
-
-pub loop-before-preserved : goal.loop-before-preserved
-loop-before-preserved c =
+pub loop-at-preserved : goal.loop-at-preserved
+loop-at-preserved c =
     let h = c.args.header.now in
     let pages = c.args.pages.now in
-    let n = c.loop-before.before in
+    let at = c.loop-at.at in
+    let number = c.in-Some.number in
     let are = (blocks-from_pages h pages c.requires).0 in
+    let here = block_at_place h.size h.commit 0 at number (entries pages) are (sym (c.number_at.ensures ∙ ap (λ (k : ℕ). slice_get (keys pages) k) c.from.ensures) ∙ c.in-Some.is) in
+    let before = flat_map page_block (take at (entries pages)) in
     elim c.match-get.branch [
-      | in-Some+in_ok-put_block w ↦
-          let page = w.in-Some.page.now in
-          let block = page_block (n + 1, page) in
+      | in-Some-get+in_ok-put_block w ↦
+          let page = w.in-Some-get.page.now in
+          let same = same_page _ here.page page (get-entries pages number ∙ here.found) (sym w.in-Some-get.ensures) in
           w.out-is ∙ w.in_ok-put_block.ensures
-          ∙ ap (λ (x : List ℕ). x ++ block) c.loop-before.invariant
-          ∙ append_assoc c.args.out.now (put_up_to h.size h.commit pages are n) block
-          ∙ ap (λ (x : List ℕ). c.args.out.now ++ x) (sym (block_put h.size h.commit pages are n page (sym w.in-Some.ensures)))
-      | in_default w ↦
-          w.out-is ∙ c.loop-before.invariant
-          ∙ ap (λ (x : List ℕ). c.args.out.now ++ x) (sym (no_block_put h.size h.commit pages are n (sym w.in_default.ensures)))
+          ∙ ap (λ (x : List ℕ). x ++ page_block (number, page)) c.loop-at.invariant
+          ∙ append_assoc c.args.out.now before (page_block (number, page))
+          ∙ ap (λ (x : List ℕ). c.args.out.now ++ x) (ap (λ (p : List ℕ). before ++ page_block (number, p)) (sym same) ∙ sym (put_more at number here.page (entries pages) here.more))
+      | in_default-get w ↦ absurd (some_not_none _ here.page (get-entries pages number ∙ here.found) (sym w.in_default-get.ensures))
     ]
 
 pub returns : goal.returns
 returns c =
     let h = c.args.header.now in
-    let are = (blocks-from_pages h c.args.pages.now c.requires).0 in
-    c.loop-before.invariant
-    ∙ ap (λ (x : List ℕ). c.args.out.now ++ x) (last_put h.size h.commit c.args.pages.now are c.loop-before.before c.loop-before-test.false c.loop-before.auto.before-end)
+    let pages = c.args.pages.now in
+    c.loop-at.invariant
+    ∙ ap (λ (x : Blocks). c.args.out.now ++ flat_map page_block x) (all_put h.size h.commit c.loop-at.at (entries pages) (blocks-from_pages h pages c.requires).0 c.loop-at-test.false)

@@ -1,9 +1,8 @@
-use Rattle.std.proofs.Common.{◌≡◌, ◌++◌}
+use Rattle.std.proofs.Common.{◌≡◌, ◌++◌, take}
 use Rattle.std.specs.FinMap.{entries}
 use Rattle.std.specs.List.{flat_map}
 use Rattle.ltx_format.specs.LtxFormat.{page_block}
-use Rattle.ltx_format.proofs.UpToLemmas.{up_to}
 use Rattle.ltx_format.proofs.writing.put_pages.Given as goal
 
-abbrev pub invariant-loop-before : goal.invariant-loop-before
-invariant-loop-before l = l.out ≡ l.initial.out ++ flat_map page_block (up_to l.before (entries l.pages))
+abbrev pub invariant-loop-at : goal.invariant-loop-at
+invariant-loop-at l = l.out ≡ l.initial.out ++ flat_map page_block (take l.at (entries l.pages))
