@@ -1,0 +1,3 @@
+pub mod QueueLemmas
+pub mod WantedLemmas
+pub mod LastPagesLemmas
