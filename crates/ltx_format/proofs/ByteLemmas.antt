@@ -1,18 +1,19 @@
 -- What a file holds are bytes.
-use Rattle.std.proofs.Common.{ℕ, zero, suc, ◌-◌, ◌<◌, List, [], ◌∷◌, ◌++◌, sym, subst, arith}
+use Rattle.std.proofs.Common.{ℕ, zero, suc, ◌-◌, ◌<◌, List, [], ◌∷◌, ◌++◌, length, Bool, true, false, sym, subst, arith}
 use Rattle.std.specs.Prelude.{replicate}
 use Rattle.std.specs.List.{flat_map}
 use Rattle.std.specs.Int.{bytes_high_first, byte_at}
-use Rattle.std.specs.FinMap.{entries}
+use Rattle.std.specs.FinMap.{entries, keys}
 use Rattle.std.proofs.lemmas.List.Concat.{flat_map-cons}
 use Rattle.ls_base.specs.Change.{Change}
 use Rattle.ls_base.specs.declared.place.Place.{Place}
 use Rattle.ls_base.specs.declared.place.Place.TheVariants.{Wal, Rest}
 use Rattle.ltx_format.specs.declared.header.LtxHeader.{LtxHeader}
-use Rattle.ltx_format.specs.LtxFormat.{log_fields, sum_fields, header_bytes, page_block, file_sum, summed_bytes, ltx_bytes, ArePages, IsLtxFile}
+use Rattle.ltx_format.specs.LtxFormat.{log_fields, sum_fields, header_flags, header_bytes, index_part, page_block, file_sum, summed_bytes, ltx_bytes, ArePages, IsLtxFile}
 use Rattle.ltx_format.proofs.FieldLaws.{AreBytes}
 use Rattle.ltx_format.proofs.BlockLoop.{Blocks}
 use Rattle.ltx_format.proofs.BlockLaws.{AreBlocks}
+use Rattle.ltx_format.proofs.IndexLaws.{number_fields}
 use Rattle.ltx_format.proofs.PageLemmas.{blocks-from_pages}
 
 pub AreBytes-none : AreBytes []
@@ -24,7 +25,8 @@ AreBytes-cons byte bytes first rest (suc i) = rest i
 
 pub AreBytes-append : (a b : List ℕ) → AreBytes a → AreBytes b → AreBytes (a ++ b)
 AreBytes-append [] b first rest = rest
-AreBytes-append (byte ∷ a) b first rest = AreBytes-cons byte (a ++ b) (first 0) (AreBytes-append a b (λ i. first (suc i)) rest)
+AreBytes-append (byte ∷ a) b first rest = AreBytes-cons byte (a ++ b) (first 0)
+    (AreBytes-append a b (λ i. first (suc i)) rest)
 
 -- the same as a record, whose list is found from it
 record Fits (bytes : List ℕ) : Type 0 where
@@ -63,22 +65,34 @@ header_fits : (h : LtxHeader) → Fits (header_bytes h)
 unfolding header_bytes
 header_fits h =
     both (both (both (both (both (both (both (both (both (both (both
-    (big 4 0x4c54_5831) (big 4 2)) (big 4 h.size)) (big 4 h.commit)) (big 8 h.min)) (big 8 h.max)) (big 8 h.moment)) (zeros 8))
+    (big 4 0x4c54_5831) (big 4 (header_flags h.index))) (big 4 h.size)) (big 4 h.commit)) (big 8 h.min)) (big 8 h.max))
+    (big 8 h.moment)) (zeros 8))
     (log_bytes h.place)) (zeros 8)) (sum_bytes h.place)) (zeros 12)
 
 pub header_are_bytes : (h : LtxHeader) → AreBytes (header_bytes h)
 header_are_bytes h = (header_fits h).all
 
-blocks_fit : (size commit last : ℕ) (blocks : Blocks) → AreBlocks size commit last blocks → Fits (flat_map page_block blocks)
+blocks_fit : (size commit last : ℕ) (blocks : Blocks) → AreBlocks size commit last blocks
+    → Fits (flat_map page_block blocks)
 blocks_fit size commit last [] are = record { all = AreBytes-none }
 blocks_fit size commit last (block ∷ blocks) are =
     let page : Fits block.1 = record { all = are.0.small } in
-    subst Fits (sym (flat_map-cons page_block block blocks)) (both (both (both (big 4 block.0) (zeros 2)) page) (blocks_fit size commit block.0 blocks are.1))
+    subst Fits (sym (flat_map-cons page_block block blocks))
+    (both (both (both (big 4 block.0) (zeros 2)) page) (blocks_fit size commit block.0 blocks are.1))
+
+numbers_bytes : (numbers : List ℕ) → Fits (number_fields numbers)
+numbers_bytes [] = record { all = AreBytes-none }
+numbers_bytes (n ∷ numbers) = both (big 4 n) (numbers_bytes numbers)
+
+index_fits : (index : Bool) (numbers : List ℕ) → Fits (index_part index numbers)
+index_fits true numbers = both (numbers_bytes numbers) (big 4 (length numbers))
+index_fits false numbers = record { all = AreBytes-none }
 
 file_fits : (h : LtxHeader) (c : Change) → ArePages h c.pages → Fits (ltx_bytes h c.pages)
 file_fits h c are =
     let blocks = blocks_fit h.size h.commit 0 (entries c.pages) (blocks-from_pages h c.pages are).0 in
-    both (both (both (both (header_fits h) blocks) (zeros 6)) (zeros 8)) (big 8 (file_sum (summed_bytes h c.pages)))
+    both (both (both (both (both (header_fits h) blocks) (zeros 6)) (index_fits h.index (keys c.pages))) (zeros 8))
+    (big 8 (file_sum (summed_bytes h c.pages)))
 
 pub file_are_bytes : (bytes : List ℕ) (h : LtxHeader) (c : Change) → IsLtxFile bytes h c → AreBytes bytes
 file_are_bytes bytes h c is = subst AreBytes (sym is.spelled) (file_fits h c is.pages).all

@@ -24,21 +24,35 @@ module _ (bytes : List ℕ) (n : ℕ) (small : AreBytes bytes) (n_is : n ≡ min
   front : take n bytes ≡ take 100 bytes
   front = front_is bytes n n_is
 
-  read_front : (h : LtxHeader) (rest : List ℕ) → header_at (take n bytes) ≡ Ok (h, rest) → header_at (take 100 bytes) ≡ Ok (h, rest)
+  read_front : (h : LtxHeader) (rest : List ℕ) → header_at (take n bytes) ≡ Ok (h, rest)
+      → header_at (take 100 bytes) ≡ Ok (h, rest)
   read_front h rest e = ap header_at (sym front) ∙ e
 
   pub found : (h : LtxHeader) (rest : List ℕ) → header_at (take n bytes) ≡ Ok (h, rest) → HasHeader bytes h
   found h rest e =
       let read = header-read (take 100 bytes) (h, rest) (AreBytes-take 100 bytes small) (read_front h rest e) in
       let whole = read.0.whole in
-      let none : rest ≡ [] = nil_from_length rest (omega (arith, ap length whole, length-append (header_bytes h) rest, header-length h, length-take 100 bytes)) in
-      record { header = read.1; spelled = whole ∙ ap (λ (x : List ℕ). header_bytes h ++ x) none ∙ append-nil (header_bytes h) }
+      let none : rest ≡ [] = nil_from_length rest (omega (
+        arith,
+        ap length whole,
+        length-append (header_bytes h) rest,
+        header-length h,
+        length-take 100 bytes,
+      )) in
+      record {
+        header = read.1;
+        spelled = whole ∙ ap (λ (x : List ℕ). header_bytes h ++ x) none
+            ∙ append-nil (header_bytes h);
+      }
 
   header_is_read : (h : LtxHeader) → HasHeader bytes h → header_at (take n bytes) ≡ Ok (h, [])
-  header_is_read h has = ap header_at (front ∙ has.spelled ∙ sym (append-nil (header_bytes h))) ∙ header-again h [] has.header
+  header_is_read h has = ap header_at (front ∙ has.spelled ∙ sym (append-nil (header_bytes h)))
+      ∙ header-again h [] has.header
 
-  pub only : (h other : LtxHeader) (rest : List ℕ) → header_at (take n bytes) ≡ Ok (other, rest) → HasHeader bytes h → other ≡ h
-  only h other rest e has = ap (λ (x : LtxHeader × List ℕ). x.0) (same_ok (other, rest) (h, []) (sym e ∙ header_is_read h has))
+  pub only : (h other : LtxHeader) (rest : List ℕ) → header_at (take n bytes) ≡ Ok (other, rest) → HasHeader bytes h
+      → other ≡ h
+  only h other rest e has = ap (λ (x : LtxHeader × List ℕ). x.0)
+      (same_ok (other, rest) (h, []) (sym e ∙ header_is_read h has))
 
   pub not_err : (h : LtxHeader) (fault : LtxFault) → header_at (take n bytes) ≡ Err fault → HasHeader bytes h → ⊥
   not_err h fault e has = err_is_not_ok fault (h, []) (sym e ∙ header_is_read h has)
@@ -52,16 +66,23 @@ pub header_read : (bytes : List ℕ) (h : LtxHeader) → HasHeader bytes h → h
 header_read bytes h has = ap header_at (has.spelled ∙ sym (append-nil (header_bytes h))) ∙ header-again h [] has.header
 
 pub same_header : (bytes : List ℕ) (h i : LtxHeader) → HasHeader bytes h → HasHeader bytes i → h ≡ i
-same_header bytes h i has other = ap (λ (x : LtxHeader × List ℕ). x.0) (same_ok (h, []) (i, []) (sym (header_read bytes h has) ∙ header_read bytes i other))
+same_header bytes h i has other = ap (λ (x : LtxHeader × List ℕ). x.0)
+    (same_ok (h, []) (i, []) (sym (header_read bytes h has) ∙ header_read bytes i other))
 
 pub no_header_fault : (bytes : List ℕ) (h : LtxHeader) → HasHeader bytes h → header_fault (take 100 bytes) ≡ None
 no_header_fault bytes h has = sym (header_fault-is (take 100 bytes)) ∙ ap fault_of (header_read bytes h has)
 
-some_header : (bytes : List ℕ) (read : Result (LtxHeader × List ℕ) LtxFault) → AreBytes bytes → header_at (take 100 bytes) ≡ read → fault_of read ≡ None → (h : LtxHeader) × HasHeader bytes h
-some_header bytes (Ok x) small e none = (x.0, found bytes (min (length bytes) 100) small refl x.0 x.1 (ap header_at (front_is bytes (min (length bytes) 100) refl) ∙ e))
+some_header : (bytes : List ℕ) (read : Result (LtxHeader × List ℕ) LtxFault) → AreBytes bytes
+    → header_at (take 100 bytes) ≡ read → fault_of read ≡ None → (h : LtxHeader) × HasHeader bytes h
+some_header bytes (Ok x) small e none = (
+  x.0,
+  found bytes (min (length bytes) 100) small refl x.0 x.1
+      (ap header_at (front_is bytes (min (length bytes) 100) refl) ∙ e),
+)
 some_header bytes (Err fault) small e none = absurd cc
 
-pub headers : (bytes : List ℕ) → AreBytes bytes → (header_fault (take 100 bytes) ≡ None) ↔ ((h : LtxHeader) × HasHeader bytes h)
+pub headers : (bytes : List ℕ) → AreBytes bytes → (header_fault (take 100 bytes) ≡ None) ↔
+    ((h : LtxHeader) × HasHeader bytes h)
 headers bytes small = (
   λ none. some_header bytes (header_at (take 100 bytes)) small refl (header_fault-is (take 100 bytes) ∙ none),
   λ header. no_header_fault bytes header.0 header.1,

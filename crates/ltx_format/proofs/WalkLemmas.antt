@@ -9,7 +9,8 @@ use Rattle.std.proofs.lemmas.List.Concat.{flat_map-append, flat_map-cons}
 use Rattle.ltx_format.specs.LtxFormat.{page_block}
 use Rattle.ltx_format.proofs.BlockLoop.{Blocks}
 use Rattle.ltx_format.proofs.BlockLaws.{AreBlocks}
-use Rattle.ltx_format.proofs.PageLemmas.{few, find_here, find_there, found-from_blocks}
+use Rattle.ltx_format.proofs.FindLemmas.{find_here, find_there, found-from_blocks}
+use Rattle.ltx_format.proofs.CountLemmas.{few}
 
 -- the block at a place: its page is found by its number, and it comes behind those of the places before
 pub record IsAt (at number : ℕ) (blocks : Blocks) : Type 0 where
@@ -17,7 +18,8 @@ pub record IsAt (at number : ℕ) (blocks : Blocks) : Type 0 where
   pub found : find nat_cmp number blocks ≡ Some page
   pub more : take (suc at) blocks ≡ take at blocks ++ (number, page) ∷ []
 
-pub block_at_place : (size commit last at number : ℕ) (blocks : Blocks) → AreBlocks size commit last blocks → slice_get (keys_of blocks) at ≡ Some number → IsAt at number blocks
+pub block_at_place : (size commit last at number : ℕ) (blocks : Blocks) → AreBlocks size commit last blocks
+    → slice_get (keys_of blocks) at ≡ Some number → IsAt at number blocks
 block_at_place size commit last zero number [] are e = absurd cc
 block_at_place size commit last (suc at) number [] are e = absurd cc
 block_at_place size commit last zero number (block ∷ blocks) are e =
@@ -33,17 +35,20 @@ block_at_place size commit last (suc at) number (block ∷ blocks) are e =
     }
 
 -- a walk up to the commit put every block
-pub all_put : (size commit at : ℕ) (blocks : Blocks) → AreBlocks size commit 0 blocks → commit ≤ at → take at blocks ≡ blocks
+pub all_put : (size commit at : ℕ) (blocks : Blocks) → AreBlocks size commit 0 blocks → commit ≤ at
+    → take at blocks ≡ blocks
 all_put size commit at blocks are done = let most = few size commit 0 blocks are in take_all at blocks (omega arith)
 
-pub put_more : (at number : ℕ) (page : List ℕ) (blocks : Blocks) → take (suc at) blocks ≡ take at blocks ++ (number, page) ∷ []
+pub put_more : (at number : ℕ) (page : List ℕ) (blocks : Blocks) → take (suc at) blocks ≡ take at blocks
+    ++ (number, page) ∷ []
     → flat_map page_block (take (at + 1) blocks) ≡ flat_map page_block (take at blocks) ++ page_block (number, page)
 put_more at number page blocks more =
     let one : at + 1 ≡ suc at = omega arith in
     ap (λ (n : ℕ). flat_map page_block (take n blocks)) one
     ∙ ap (flat_map page_block) more
     ∙ flat_map-append page_block (take at blocks) ((number, page) ∷ [])
-    ∙ ap (λ (x : List ℕ). flat_map page_block (take at blocks) ++ x) (flat_map-cons page_block (number, page) [] ∙ append-nil (page_block (number, page)))
+    ∙ ap (λ (x : List ℕ). flat_map page_block (take at blocks) ++ x)
+    (flat_map-cons page_block (number, page) [] ∙ append-nil (page_block (number, page)))
 
 pub same_page : (o : Option (List ℕ)) (a b : List ℕ) → o ≡ Some a → o ≡ Some b → a ≡ b
 same_page o a b first second = cc

@@ -3,3 +3,4 @@ pub mod FirstFault
 pub mod Reading
 pub mod OneSpelling
 pub mod FaultlessFiles
+pub mod Writing

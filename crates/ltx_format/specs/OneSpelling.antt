@@ -10,7 +10,8 @@ OneSpelling = (a b : List ℕ) (h : LtxHeader) (c : Change) → IsLtxFile a h c 
 
 -- bytes are the file of at most one header and change
 abbrev pub OneValue : Type 0
-OneValue = (bytes : List ℕ) (h i : LtxHeader) (c d : Change) → IsLtxFile bytes h c → IsLtxFile bytes i d → (h ≡ i) × (c ≡ d)
+OneValue =
+    (bytes : List ℕ) (h i : LtxHeader) (c d : Change) → IsLtxFile bytes h c → IsLtxFile bytes i d → (h ≡ i) × (c ≡ d)
 
 -- bytes begin with at most one header
 abbrev pub OneHeader : Type 0
@@ -18,4 +19,5 @@ OneHeader = (bytes : List ℕ) (h i : LtxHeader) → HasHeader bytes h → HasHe
 
 -- each item of a file is a byte
 abbrev pub FilesAreBytes : Type 0
-FilesAreBytes = (bytes : List ℕ) (h : LtxHeader) (c : Change) → IsLtxFile bytes h c → (k : ℕ) → slice_index bytes k < 2 ^ 8
+FilesAreBytes =
+    (bytes : List ℕ) (h : LtxHeader) (c : Change) → IsLtxFile bytes h c → (k : ℕ) → slice_index bytes k < 2 ^ 8

@@ -1,18 +1,20 @@
 -- Reading a file from left to right. Each reader answers what it read and the bytes behind it, or the fault.
 use Rattle.std.specs.Prelude.{◌≡◌, ℕ, zero, suc, ◌+◌, ◌-◌, ◌*◌, ◌%◌, ◌^◌, Bool, List, [], ◌∷◌, length, take, drop, Result, Ok, Err, nat_lt, nat_le, ◌==◌, ◌&&◌, ◌||◌, not, if◌then◌else◌}
 use Rattle.std.specs.Int.{Width, w16, w32, w64, byte_len, from_be_bytes}
+use Rattle.std.specs.Map.{keys_of}
 use Rattle.std.specs.FinMap.{entries}
 use Rattle.ls_base.specs.PageSize.{is_page_size}
+use Rattle.ls_base.specs.Limits.{database_limit}
 use Rattle.ls_base.specs.declared.place.Place.{Place}
 use Rattle.ls_base.specs.declared.place.Place.TheVariants.{Wal, Rest}
 use Rattle.ltx_format.specs.declared.fault.DecodeFault.{DecodeFault}
 use Rattle.ltx_format.specs.declared.fault.DecodeFault.TheVariants as causes
 use Rattle.ltx_format.specs.declared.fault.LtxFault.{LtxFault}
-use Rattle.ltx_format.specs.declared.fault.LtxFault.TheVariants.{Short, BadMagic, Compressed, BadFlags, BadPageSize, BadCommit, BadRange, BadReserved, BadOrder, BadSum, Extra}
+use Rattle.ltx_format.specs.declared.fault.LtxFault.TheVariants.{Short, BadMagic, Compressed, BadFlags, BadPageSize, BadCommit, BadRange, BadReserved, BadOrder, BadSum, Extra, BadIndex}
 use Rattle.ltx_format.specs.declared.file.LtxFile.{LtxFile}
 use Rattle.ltx_format.specs.declared.header.LtxHeader.{LtxHeader}
-use Rattle.ltx_format.specs.LtxFormat.{file_sum}
-use Rattle.ltx_format.specs.FirstFault.{are_frames}
+use Rattle.ltx_format.specs.LtxFormat.{file_sum, header_flags}
+use Rattle.ltx_format.specs.FirstFault.{are_frames, is_next, stored_pages}
 
 -- one reader after another, up to the first fault
 infixl 10 ◌>>=◌
@@ -45,7 +47,9 @@ passes test fault = where_true test fault tt
 
 -- a number
 unfoldable pub number_at : Width → List ℕ → Result (ℕ × List ℕ) LtxFault
-number_at w bytes = if nat_lt (length bytes) (byte_len w) then Err Short else Ok (from_be_bytes w (take (byte_len w) bytes), drop (byte_len w) bytes)
+number_at w bytes =
+    if nat_lt (length bytes) (byte_len w) then Err Short
+    else Ok (from_be_bytes w (take (byte_len w) bytes), drop (byte_len w) bytes)
 
 -- the bytes behind this number, which must stand first
 unfoldable pub behind : Width → ℕ → LtxFault → List ℕ → Result (List ℕ) LtxFault
@@ -63,11 +67,11 @@ flags_from flags found = do
 unfoldable pub size_from : ℕ → Result ℕ LtxFault
 size_from number = where_true (is_page_size number) BadPageSize number
 
--- how many pages the database has afterwards: at least one, and at most 2^30 bytes together
+-- how many pages the database has afterwards: at least one, and at most 2^40 bytes together
 unfoldable pub commit_at : ℕ → List ℕ → Result (ℕ × List ℕ) LtxFault
 commit_at size bytes = do
   n ← number_at w32 bytes
-  where_true (not (n.0 == 0) && nat_le (n.0 * size) (2 ^ 30)) BadCommit n
+  where_true (not (n.0 == 0) && nat_le (n.0 * size) database_limit) BadCommit n
 
 -- the first and the last transaction of two numbers
 unfoldable pub range_from : ℕ → ℕ → Result (ℕ × ℕ) LtxFault
@@ -104,7 +108,7 @@ unfoldable pub fields_at : List ℕ → Result (LtxHeader × List ℕ) LtxFault
 fields_at bytes = do
   magic ← behind w32 0x4c54_5831 BadMagic bytes
   flags ← number_at w32 magic
-  plain ← flags_from 2 flags.0
+  plain ← flags_from (header_flags (flags.0 == 6)) flags.0
   field ← number_at w32 flags.1
   size ← size_from field.0
   commit ← commit_at size field.1
@@ -116,7 +120,18 @@ fields_at bytes = do
   place ← place_at size log
   free ← behind w64 0 BadReserved place.1
   rest ← behind w32 0 BadReserved free
-  Ok (record { size = size; commit = commit.0; min = range.0; max = range.1; moment = moment.0; place = place.0 }, rest)
+  Ok (
+    record {
+      size = size;
+      commit = commit.0;
+      min = range.0;
+      max = range.1;
+      moment = moment.0;
+      place = place.0;
+      index = flags.0 == 6;
+    },
+    rest,
+  )
 
 -- the header, of which all 100 bytes must be there
 unfoldable pub header_at : List ℕ → Result (LtxHeader × List ℕ) LtxFault
@@ -130,10 +145,10 @@ block_at bytes = do
   plain ← flags_from 0 flags.0
   Ok (number.0, flags.1)
 
--- the page of this number, which rises and is at most the commit
+-- the page of this number, which rises, is at most the commit and isn't the lock page
 unfoldable pub page_at : ℕ → ℕ → ℕ → ℕ → List ℕ → Result (List ℕ × List ℕ) LtxFault
 page_at size commit last number bytes = do
-  rest ← where_true (nat_lt last number && nat_le number commit) (BadOrder number) bytes
+  rest ← where_true (is_next size commit last number) (BadOrder number) bytes
   where_true (nat_le size (length rest)) Short (take size rest, drop size rest)
 
 -- the bytes behind a block that must have number 0
@@ -155,11 +170,34 @@ blocks_at (suc n) size commit last bytes = do
     others ← blocks_at n size commit number.0 page.1
     Ok ((number.0, page.0) ∷ others.0, others.1)
 
+-- the number of a block in the index
+unfoldable pub entry_at : ℕ → List ℕ → Result (List ℕ) LtxFault
+entry_at number bytes = do
+  n ← number_at w32 bytes
+  where_true (n.0 == number) (BadIndex n.0) n.1
+
+-- the numbers of these blocks in the index
+unfoldable pub numbers_at : List ℕ → List ℕ → Result (List ℕ) LtxFault
+numbers_at [] bytes = Ok bytes
+numbers_at (number ∷ numbers) bytes = do
+  rest ← entry_at number bytes
+  numbers_at numbers rest
+
+-- the index of the blocks of these numbers
+unfoldable pub index_at : List ℕ → List ℕ → Result (List ℕ) LtxFault
+index_at numbers bytes = do
+  rest ← numbers_at numbers bytes
+  behind w32 (length numbers) (BadIndex 0) rest
+
+-- the index where the header says that there is one
+unfoldable pub index_part_at : Bool → List ℕ → List ℕ → Result (List ℕ) LtxFault
+index_part_at index numbers bytes = if index then index_at numbers bytes else Ok bytes
+
 -- the sum that stands before these last bytes of a file
 abbrev pub sum_before : List ℕ → List ℕ → ℕ
 sum_before file rest = file_sum (take (length file - length rest) file)
 
--- what ends the file behind the blocks: post-apply checksum 0, and the sum of all before it
+-- what ends the file behind the blocks and the index: post-apply checksum 0, and the sum of all before it
 unfoldable pub end_at : List ℕ → List ℕ → Result (Unit {0}) LtxFault
 end_at file bytes = do
   check ← number_at w64 bytes
@@ -168,17 +206,18 @@ end_at file bytes = do
   right ← passes (kept.0 == sum_before file check.1) (BadSum kept.0 (sum_before file check.1))
   passes (length kept.1 == 0) Extra
 
--- a file from the first transaction on has every page
-abbrev pub is_whole : LtxHeader → List (ℕ × List ℕ) → Bool
-is_whole header blocks = not (header.min == 1) || length blocks == header.commit
+-- a file from the first transaction on has every page but the lock page
+abbrev pub has_all : LtxHeader → List (ℕ × List ℕ) → Bool
+has_all header blocks = not (header.min == 1) || length blocks == stored_pages header.size header.commit
 
 -- the whole file
 unfoldable pub file_at : List ℕ → Result (LtxHeader × List (ℕ × List ℕ)) LtxFault
 file_at bytes = do
   header ← header_at bytes
   blocks ← blocks_at header.0.commit header.0.size header.0.commit 0 header.1
-  whole ← where_true (is_whole header.0 blocks.0) (BadOrder 0) blocks.0
-  ended ← end_at bytes blocks.1
+  whole ← where_true (has_all header.0 blocks.0) (BadOrder 0) blocks.0
+  tail ← index_part_at header.0.index (keys_of whole) blocks.1
+  ended ← end_at bytes tail
   Ok (header.0, whole)
 
 -- a file by its header and the entries of its pages

@@ -17,7 +17,8 @@ pub(crate) fn pages_of<'a>(
     header: &LtxHeader,
     bytes: &'a [u8],
 ) -> Result<(ChangePages, u32, &'a [u8]), DecodeFault>
-    ensures value { ReadsInMemory (λ x. (map.entries x.0, x.2.now)) result (blocks_at header.now.commit header.now.size header.now.commit 0 bytes.now) }
+    ensures value { ReadsInMemory (λ x. (map.entries x.0, x.2.now)) result
+        (blocks_at header.now.commit header.now.size header.now.commit 0 bytes.now) }
     ensures count { IfOk result (λ x. x.1 ≡ length (map.entries x.0)) }
 {
     let mut pages = ChangePages::new(alloc);
@@ -61,7 +62,7 @@ fn number_of(bytes: &[u8]) -> Result<(u32, &[u8]), LtxFault>
     Ok((number, rest))
 }
 
-/// The page of this number behind its block's flags, where the number rises.
+/// The page of this number behind its block's flags, where the number rises and isn't the lock page.
 #[tactic(auto, unfolding(crate::specs::Reading::page_at))]
 fn page_of<'a>(
     header: &LtxHeader,
@@ -71,7 +72,7 @@ fn page_of<'a>(
 ) -> Result<(&'a [u8], &'a [u8]), LtxFault>
     ensures { Reads (λ x. (x.0.now, x.1.now)) result (page_at header.now.size header.now.commit last number bytes.now) }
 {
-    if number <= last || number > header.commit {
+    if number <= last || number > header.commit || number == header.size.lock_page() {
         return Err(LtxFault::BadOrder(number));
     }
     let size = header.size.get() as usize;

@@ -19,13 +19,13 @@ pub enum LtxFault {
     /// Bit 0 of the header's flags, or of a block's, is set.
     #[error("compressed")]
     Compressed,
-    /// The header's flags aren't 2, or a block's aren't 0.
+    /// The header's flags are neither 2 nor 6, or a block's aren't 0.
     #[error("bad flags")]
     BadFlags,
     /// The page size isn't a power of two from 512 to 65536.
     #[error("bad page size")]
     BadPageSize,
-    /// The database would have no page, or more than 2^30 bytes.
+    /// The database would have no page, or more than 2^40 bytes.
     #[error("bad commit")]
     BadCommit,
     /// The first transaction is 0, or above the last one.
@@ -34,8 +34,8 @@ pub enum LtxFault {
     /// Another field of the header isn't as the format wants it, or the post-apply checksum isn't 0.
     #[error("bad reserved field")]
     BadReserved,
-    /// The block of this number isn't above the one before, or is above the commit. For number 0: the
-    /// blocks end, and a file from transaction 1 on lacks a page.
+    /// The block of this number isn't above the one before, is above the commit, or is the lock page. For
+    /// number 0: the blocks end, and a file from transaction 1 on lacks a page other than the lock page.
     #[error("bad page order at {0}")]
     BadOrder(u32),
     /// The sum that the file keeps isn't the one found over the bytes before it.
@@ -49,6 +49,10 @@ pub enum LtxFault {
     /// Bytes stand behind the trailer.
     #[error("extra bytes")]
     Extra,
+    /// The index has this number where the block at that place has another one. For number 0 also: the
+    /// index's count isn't how many blocks there are.
+    #[error("bad index at {0}")]
+    BadIndex(u32),
 }
 
 /// Why a file could not be read.

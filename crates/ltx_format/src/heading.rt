@@ -1,5 +1,7 @@
 //! Reading the header.
 
+ghost use Rattle.std.specs.Prelude.{◌≡◌};
+ghost use Rattle.ltx_format.specs.LtxFormat as spec;
 ghost use Rattle.ltx_format.specs.Reading.{Reads, size_from, commit_at, range_from, fields_at, header_at};
 
 use crate::fault::LtxFault;
@@ -9,13 +11,22 @@ use crate::place::place_of;
 use ls_base::{PageSize, Txid};
 
 /// The length of a header in bytes.
-pub(crate) const HEADER_BYTES: usize = 100;
+pub const HEADER_BYTES: usize = 100;
 /// The first four bytes of each file, `LTX1`, as a number.
 pub(crate) const MAGIC: u32 = 0x4c54_5831;
-/// The flags of a file that has no rolling checksums.
-pub(crate) const NO_ROLLING_CHECKSUMS: u32 = 2;
+/// The flags of a file that has no index: it has no rolling checksums either.
+const PLAIN_FLAGS: u32 = 2;
+/// The flags of a file that has an index.
+const INDEX_FLAGS: u32 = 6;
 /// The greatest length of a database in bytes.
-const DATABASE_BYTES: u64 = 1 << 30;
+const DATABASE_BYTES: u64 = 1 << 40;
+
+/// The flags of a file with or without an index.
+pub(crate) fn flags_of(index: bool) -> u32
+    ensures { result ≡ spec.header_flags index }
+{
+    if index { INDEX_FLAGS } else { PLAIN_FLAGS }
+}
 
 /// The header at the front, and the bytes behind it.
 #[tactic(auto, unfolding(crate::specs::Reading::header_at))]
@@ -35,7 +46,8 @@ fn fields_of(bytes: &[u8]) -> Result<(LtxHeader, &[u8]), LtxFault>
 {
     let rest = behind_u32(MAGIC, LtxFault::BadMagic, bytes)?;
     let (flags, rest) = u32_at(rest)?;
-    check_flags(NO_ROLLING_CHECKSUMS, flags)?;
+    let index = flags == INDEX_FLAGS;
+    check_flags(flags_of(index), flags)?;
     let (size, rest) = u32_at(rest)?;
     let size = size_of(size)?;
     let (commit, rest) = commit_of(size, rest)?;
@@ -54,6 +66,7 @@ fn fields_of(bytes: &[u8]) -> Result<(LtxHeader, &[u8]), LtxFault>
         max,
         moment,
         place,
+        index,
     };
     Ok((header, rest))
 }

@@ -8,6 +8,7 @@ ghost use Rattle.ltx_format.specs.FirstFault.{header_fault, TellsFirstFault};
 ghost use Rattle.ltx_format.specs.Reading.{ReadsInMemory, parts, file_at};
 
 use crate::block::pages_of;
+use crate::entries::index_of;
 use crate::fault::{DecodeFault, LtxFault};
 use crate::file::LtxFile;
 use crate::header::LtxHeader;
@@ -43,7 +44,7 @@ pub fn read_ltx_header(bytes: &[u8]) -> Result<LtxHeader, LtxFault>
 }
 
 /// The file by its parts.
-#[tactic(auto, unfolding(crate::specs::Reading::file_at))]
+#[tactic(auto, unfolding(crate::specs::Reading::file_at, crate::specs::Reading::index_part_at))]
 fn file_of(alloc: Global, bytes: &[u8]) -> Result<LtxFile, DecodeFault>
     ensures { ReadsInMemory parts result (file_at bytes.now) }
 {
@@ -52,9 +53,14 @@ fn file_of(alloc: Global, bytes: &[u8]) -> Result<LtxFile, DecodeFault>
         Err(fault) => return Err(DecodeFault::Fault(fault)),
     };
     let (pages, count, rest) = pages_of(alloc, &header, rest)?;
-    if header.min.number() == 1 && count != header.commit {
+    if header.min.number() == 1 && count != header.stored_pages() {
         return Err(DecodeFault::Fault(LtxFault::BadOrder(0)));
     }
+    let rest = if header.index {
+        index_of(&pages, count, rest)?
+    } else {
+        rest
+    };
     end_of(bytes, rest)?;
     Ok(LtxFile { header, pages })
 }

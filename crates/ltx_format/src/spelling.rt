@@ -1,7 +1,8 @@
 //! The laws of files and their values.
 
 ghost use Rattle.ltx_format.specs.OneSpelling.{OneSpelling, OneValue, OneHeader, FilesAreBytes};
-ghost use Rattle.ltx_format.specs.FaultlessFiles.{FaultlessFiles, FilesHaveNoFault, FaultlessHeaders, HeadersHaveNoFault};
+ghost use Rattle.ltx_format.specs.FaultlessFiles.{FaultlessFiles, FilesHaveNoFault};
+ghost use Rattle.ltx_format.specs.FaultlessFiles.{FaultlessHeaders, HeadersHaveNoFault};
 
 /// Each header and change has one file, and each file one header and change. What a file holds are bytes.
 /// Does nothing: its clauses hold of all files.

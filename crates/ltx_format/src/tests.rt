@@ -32,31 +32,8 @@ const REST: [u8; 52] = [
 /// The first 20 bytes of a database of pages of 512 bytes.
 const DATABASE: [u8; 20] = *b"SQLite format 3\0\x02\0\x02\x02";
 
-/// The sums of the log behind its two frames, whose pages are those of `two_pages`.
-fn sums_of_the_log() -> WalSum {
-    let mut sums = WalSum::start().over(Order::Big, &LOG_HEADER);
-    sums = sums.over(Order::Big, &[0, 0, 0, 1, 0, 0, 0, 0]);
-    sums = sums.over(Order::Big, b"SQLite format 3\0\x02\0\x02\x02\0\0\0\0");
-    sums = sums.over(Order::Big, &[0; 72]);
-    sums = sums.over(Order::Big, &[0, 0, 0, 0, 0x11, 0x11, 0x11, 0x11]);
-    sums = sums.over(Order::Big, &[0x11; 408]);
-    sums = sums.over(Order::Big, &[0, 0, 0, 2, 0, 0, 0, 2]);
-    sums.over(Order::Big, &[0x22; 512])
-}
-
-/// The file of two pages but its own sum.
-fn two_pages(alloc: Global, place: &[u8]) -> Result<Vec<u8>, AllocError> {
-    let mut file = Vec::from_slice(alloc, &START)?;
-    file.extend_from_slice(place)?;
-    file.extend_from_slice(&[0, 0, 0, 1, 0, 0])?;
-    file.extend_from_slice(&DATABASE)?;
-    file.extend_from_slice(&[0; 80])?;
-    file.extend_from_slice(&[0x11; 412])?;
-    file.extend_from_slice(&[0, 0, 0, 2, 0, 0])?;
-    file.extend_from_slice(&[0x22; 512])?;
-    file.extend_from_slice(&[0; 14])?;
-    Ok(file)
-}
+/// The index of a file of pages 1 and 2.
+const INDEX: [u8; 12] = [0, 0, 0, 1, 0, 0, 0, 2, 0, 0, 0, 2];
 
 /// The bytes, and their sum behind them.
 fn summed(alloc: Global, bytes: &[u8]) -> Result<Vec<u8>, AllocError> {
@@ -68,11 +45,37 @@ fn summed(alloc: Global, bytes: &[u8]) -> Result<Vec<u8>, AllocError> {
     Ok(file)
 }
 
+/// The file of two pages, with this index where it isn't empty.
+fn two_pages(alloc: Global, place: &[u8], index: &[u8]) -> Result<Vec<u8>, AllocError> {
+    let mut file = Vec::from_slice(alloc, &START[..7])?;
+    file.push(if index.is_empty() { 2 } else { 6 })?;
+    file.extend_from_slice(&START[8..])?;
+    file.extend_from_slice(place)?;
+    file.extend_from_slice(&[0, 0, 0, 1, 0, 0])?;
+    file.extend_from_slice(&DATABASE)?;
+    file.extend_from_slice(&[0; 80])?;
+    file.extend_from_slice(&[0x11; 412])?;
+    file.extend_from_slice(&[0, 0, 0, 2, 0, 0])?;
+    file.extend_from_slice(&[0x22; 512])?;
+    file.extend_from_slice(&[0; 6])?;
+    file.extend_from_slice(index)?;
+    file.extend_from_slice(&[0; 8])?;
+    summed(alloc, &file)
+}
+
 #[test]
 fn a_file_of_a_place_in_the_log(rt: HostRuntime) -> Result<(), Fail> {
-    let file = summed(rt.alloc(), &two_pages(rt.alloc(), &WAL)?)?;
+    let file = two_pages(rt.alloc(), &WAL, &[])?;
     let read = decode(rt.alloc(), &file).ok().ok_or("it is a file")?;
-    let sums = sums_of_the_log();
+    // behind the log's two frames, whose pages are those of the file
+    let mut sums = WalSum::start().over(Order::Big, &LOG_HEADER);
+    sums = sums.over(Order::Big, &[0, 0, 0, 1, 0, 0, 0, 0]);
+    sums = sums.over(Order::Big, b"SQLite format 3\0\x02\0\x02\x02\0\0\0\0");
+    sums = sums.over(Order::Big, &[0; 72]);
+    sums = sums.over(Order::Big, &[0, 0, 0, 0, 0x11, 0x11, 0x11, 0x11]);
+    sums = sums.over(Order::Big, &[0x11; 408]);
+    sums = sums.over(Order::Big, &[0, 0, 0, 2, 0, 0, 0, 2]);
+    sums = sums.over(Order::Big, &[0x22; 512]);
     assert_eq!(rt; (sums.s0, sums.s1), (0xdfdb_b9ce, 0xd7a6_1ac1));
     let header = LtxHeader {
         size: PageSize::from_u32(512).ok_or("a page size")?,
@@ -87,22 +90,9 @@ fn a_file_of_a_place_in_the_log(rt: HostRuntime) -> Result<(), Fail> {
             s0: sums.s0,
             s1: sums.s1,
         },
+        index: false,
     };
     assert!(rt; read.header == header);
-    Ok(())
-}
-
-#[test]
-fn a_file_of_two_pages_at_rest(rt: HostRuntime) -> Result<(), Fail> {
-    let file = summed(rt.alloc(), &two_pages(rt.alloc(), &REST)?)?;
-    assert_eq!(rt; file.len(), 1158);
-    let read = decode(rt.alloc(), &file).ok().ok_or("it is a file")?;
-    assert_eq!(rt; read.header.place, Place::Rest { sum: 1 << 63 });
-    let first = read.pages.get(1).ok_or("page 1")?;
-    assert!(rt; first.bytes().starts_with(&DATABASE));
-    let second = read.pages.get(2).ok_or("page 2")?;
-    assert_eq!(rt; second.bytes(), [0x22; 512].as_slice());
-    assert!(rt; read.pages.get(3).is_none());
     Ok(())
 }
 
@@ -115,7 +105,26 @@ fn written_again(alloc: Global, bytes: &[u8]) -> Option<Bytes> {
 }
 
 #[test]
-fn a_file_of_each_page_size_is_written_as_it_was_read(rt: HostRuntime) -> Result<(), Fail> {
+fn a_file_is_written_as_it_was_read(rt: HostRuntime) -> Result<(), Fail> {
+    for (index, length) in [(&INDEX[..0], 1158), (&INDEX[..], 1170)] {
+        let file = two_pages(rt.alloc(), &REST, index)?;
+        assert_eq!(rt; file.len(), length);
+        let read = decode(rt.alloc(), &file).ok().ok_or("it is a file")?;
+        assert_eq!(rt; read.header.place, Place::Rest { sum: 1 << 63 });
+        assert_eq!(rt; read.header.index, !index.is_empty());
+        let first = read.pages.get(1).ok_or("page 1")?;
+        assert!(rt; first.bytes().starts_with(&DATABASE));
+        let second = read.pages.get(2).ok_or("page 2")?;
+        assert_eq!(rt; second.bytes(), [0x22; 512].as_slice());
+        assert!(rt; read.pages.get(3).is_none());
+        let written = written_again(rt.alloc(), &file).ok_or("it is a file")?;
+        assert_eq!(rt; written.as_slice(), file.as_slice());
+    }
+    Ok(())
+}
+
+#[test]
+fn a_file_of_each_page_size(rt: HostRuntime) -> Result<(), Fail> {
     for size in [512u32, 1024, 2048, 4096, 8192, 16384, 32768, 65536] {
         let mut bytes = Vec::from_slice(rt.alloc(), &START[..8])?;
         bytes.extend_from_slice(&size.to_be_bytes())?;
@@ -126,44 +135,57 @@ fn a_file_of_each_page_size_is_written_as_it_was_read(rt: HostRuntime) -> Result
         bytes.extend_from_slice(&vec![in rt.alloc(); 7u8; size as usize]?)?;
         bytes.extend_from_slice(&[0; 14])?;
         let file = summed(rt.alloc(), &bytes)?;
+        let read = decode(rt.alloc(), &file).ok().ok_or("it is a file")?;
+        assert_eq!(rt; read.header.size.get(), size);
         let written = written_again(rt.alloc(), &file).ok_or("it is a file")?;
         assert_eq!(rt; written.as_slice(), file.as_slice());
-        let read = decode(rt.alloc(), written.as_slice())
-            .ok()
-            .ok_or("it is a file")?;
-        assert_eq!(rt; read.header.size.get(), size);
     }
     Ok(())
 }
 
-/// Where a byte of the file of two pages is changed, to what, and the first fault then.
-const CHANGES: [(usize, u8, LtxFault); 24] = [
-    (0, 0, LtxFault::BadMagic),
-    (7, 1, LtxFault::Compressed),
-    (7, 0, LtxFault::BadFlags),
-    (7, 4, LtxFault::BadFlags),
-    (11, 1, LtxFault::BadPageSize),
-    (15, 0, LtxFault::BadCommit),
-    (15, 3, LtxFault::BadOrder(0)),
-    (23, 0, LtxFault::BadRange),
-    (23, 2, LtxFault::BadRange),
+/// Where a byte of the file of two pages is changed, with or without the index, to what, and the first fault
+/// then.
+const CHANGES: [(bool, usize, u8, LtxFault); 36] = [
+    (false, 0, 0, LtxFault::BadMagic),
+    (false, 7, 1, LtxFault::Compressed),
+    (false, 7, 7, LtxFault::Compressed),
+    (false, 7, 0, LtxFault::BadFlags),
+    (false, 7, 4, LtxFault::BadFlags),
+    (false, 11, 1, LtxFault::BadPageSize),
+    (false, 15, 0, LtxFault::BadCommit),
+    // 2^31 + 2 pages of 512 bytes
+    (false, 12, 128, LtxFault::BadCommit),
+    (false, 15, 3, LtxFault::BadOrder(0)),
+    (false, 23, 0, LtxFault::BadRange),
+    (false, 23, 2, LtxFault::BadRange),
     // pre-apply checksum, the log's offset and length, node, sum of the place, free bytes
-    (47, 1, LtxFault::BadReserved),
-    (55, 1, LtxFault::BadReserved),
-    (63, 1, LtxFault::BadReserved),
-    (79, 1, LtxFault::BadReserved),
-    (80, 0, LtxFault::BadReserved),
-    (99, 1, LtxFault::BadReserved),
+    (false, 47, 1, LtxFault::BadReserved),
+    (false, 55, 1, LtxFault::BadReserved),
+    (false, 63, 1, LtxFault::BadReserved),
+    (false, 79, 1, LtxFault::BadReserved),
+    (false, 80, 0, LtxFault::BadReserved),
+    (false, 99, 1, LtxFault::BadReserved),
     // numbers and flags of the blocks
-    (103, 0, LtxFault::BadOrder(0)),
-    (105, 1, LtxFault::Compressed),
-    (105, 2, LtxFault::BadFlags),
-    (621, 1, LtxFault::BadOrder(1)),
-    (621, 3, LtxFault::BadOrder(3)),
-    (1141, 1, LtxFault::Compressed),
+    (false, 103, 0, LtxFault::BadOrder(0)),
+    (false, 105, 1, LtxFault::Compressed),
+    (false, 105, 2, LtxFault::BadFlags),
+    (false, 621, 1, LtxFault::BadOrder(1)),
+    (false, 621, 3, LtxFault::BadOrder(3)),
+    (false, 1141, 1, LtxFault::Compressed),
+    // the flags tell of an index that isn't there, or don't tell of the one that is
+    (false, 7, 6, LtxFault::BadIndex(0)),
+    (true, 7, 2, LtxFault::BadReserved),
+    // both numbers of the index, and its count
+    (true, 1145, 0, LtxFault::BadIndex(0)),
+    (true, 1145, 2, LtxFault::BadIndex(2)),
+    (true, 1149, 1, LtxFault::BadIndex(1)),
+    (true, 1153, 1, LtxFault::BadIndex(0)),
+    (true, 1153, 3, LtxFault::BadIndex(0)),
     // post-apply checksum, a byte of a page, the sum
-    (1142, 1, LtxFault::BadReserved),
+    (false, 1142, 1, LtxFault::BadReserved),
+    (true, 1154, 1, LtxFault::BadReserved),
     (
+        false,
         200,
         0x12,
         LtxFault::BadSum {
@@ -172,11 +194,30 @@ const CHANGES: [(usize, u8, LtxFault); 24] = [
         },
     ),
     (
+        false,
         1157,
         0x90,
         LtxFault::BadSum {
             kept: 0xf856_1898_5aa5_0590,
             found: 0xf856_1898_5aa5_0591,
+        },
+    ),
+    (
+        true,
+        200,
+        0x12,
+        LtxFault::BadSum {
+            kept: 0xecc7_aa29_5f55_37d2,
+            found: 0xd9d1_0bf7_0520_5d3c,
+        },
+    ),
+    (
+        true,
+        1169,
+        0xd3,
+        LtxFault::BadSum {
+            kept: 0xecc7_aa29_5f55_37d3,
+            found: 0xecc7_aa29_5f55_37d2,
         },
     ),
 ];
@@ -191,8 +232,9 @@ fn fault_of(alloc: Global, bytes: &[u8]) -> Option<LtxFault> {
 
 #[test]
 fn a_changed_byte_is_told(rt: HostRuntime) -> Result<(), Fail> {
-    for (at, byte, fault) in CHANGES {
-        let mut file = summed(rt.alloc(), &two_pages(rt.alloc(), &REST)?)?;
+    for (indexed, at, byte, fault) in CHANGES {
+        let index = if indexed { &INDEX[..] } else { &INDEX[..0] };
+        let mut file = two_pages(rt.alloc(), &REST, index)?;
         if let Some(changed) = file.get_mut(at) {
             *changed = byte;
         }
@@ -203,8 +245,9 @@ fn a_changed_byte_is_told(rt: HostRuntime) -> Result<(), Fail> {
 
 #[test]
 fn another_length_is_told(rt: HostRuntime) -> Result<(), Fail> {
-    let mut file = summed(rt.alloc(), &two_pages(rt.alloc(), &REST)?)?;
-    for length in [0, 99, 700, 1157] {
+    let mut file = two_pages(rt.alloc(), &REST, &INDEX)?;
+    // within the header, a block, its page, the end, both numbers of the index, its count, and the trailer
+    for length in [0, 99, 105, 700, 1141, 1145, 1149, 1153, 1161, 1169] {
         let front = file.get(..length).ok_or("the front")?;
         assert_eq!(rt;
             fault_of(rt.alloc(), front),
@@ -212,17 +255,75 @@ fn another_length_is_told(rt: HostRuntime) -> Result<(), Fail> {
             "of {length}"
         );
     }
+    let short = file.get(..99).ok_or("99 bytes")?;
+    assert_eq!(rt; read_ltx_header(short).err(), Some(LtxFault::Short));
+    let front = file.get(..100).ok_or("100 bytes")?;
+    assert_eq!(rt;
+        read_ltx_header(front).ok().map(|header| header.commit),
+        Some(2)
+    );
     file.push(0)?;
     assert_eq!(rt; fault_of(rt.alloc(), &file), Some(LtxFault::Extra));
     Ok(())
 }
 
 #[test]
-fn the_header_alone_is_read(rt: HostRuntime) -> Result<(), Fail> {
-    let file = two_pages(rt.alloc(), &WAL)?;
-    let header = read_ltx_header(&file).ok().ok_or("a header")?;
-    assert_eq!(rt; header.commit, 2);
-    let front = file.get(..99).ok_or("99 bytes")?;
-    assert_eq!(rt; read_ltx_header(front).err(), Some(LtxFault::Short));
+fn a_file_with_one_page_in_its_index(rt: HostRuntime) -> Result<(), Fail> {
+    // transactions 2 and 3, and page 2 alone
+    let mut bytes = Vec::from_slice(rt.alloc(), &START[..7])?;
+    bytes.push(6)?;
+    bytes.extend_from_slice(&START[8..16])?;
+    bytes.extend_from_slice(&[0, 0, 0, 0, 0, 0, 0, 2, 0, 0, 0, 0, 0, 0, 0, 3])?;
+    bytes.extend_from_slice(&START[32..])?;
+    bytes.extend_from_slice(&WAL)?;
+    bytes.extend_from_slice(&[0, 0, 0, 2, 0, 0])?;
+    bytes.extend_from_slice(&[0x33; 512])?;
+    bytes.extend_from_slice(&[0, 0, 0, 0, 0, 0, 0, 0, 0, 2, 0, 0, 0, 1])?;
+    bytes.extend_from_slice(&[0; 8])?;
+    let mut file = summed(rt.alloc(), &bytes)?;
+    assert_eq!(rt; file.len(), 648);
+    let sum = 0xd22b_5e17_36ef_7703_u64.to_be_bytes();
+    assert_eq!(rt; file.get(640..), Some(sum.as_slice()));
+    let written = written_again(rt.alloc(), &file).ok_or("it is a file")?;
+    assert_eq!(rt; written.as_slice(), file.as_slice());
+    for (at, byte, fault) in [
+        (631, 2, LtxFault::BadIndex(0)),
+        (627, 3, LtxFault::BadIndex(3)),
+    ] {
+        if let Some(changed) = file.get_mut(at) {
+            *changed = byte;
+        }
+        assert_eq!(rt; fault_of(rt.alloc(), &file), Some(fault), "at {at}");
+    }
+    Ok(())
+}
+
+/// Numbers of pages of 65536 bytes, the number of the one page that the file holds, and its first fault. The
+/// lock page has number 16385.
+const LOCKED: [(u32, u32, Option<LtxFault>); 6] = [
+    (16400, 16384, None),
+    (16400, 16385, Some(LtxFault::BadOrder(16385))),
+    (16400, 16386, None),
+    (16385, 16385, Some(LtxFault::BadOrder(16385))),
+    (1 << 24, 1 << 24, None),
+    ((1 << 24) + 1, 1, Some(LtxFault::BadCommit)),
+];
+
+#[test]
+fn the_lock_page_is_never_stored(rt: HostRuntime) -> Result<(), Fail> {
+    for (commit, number, fault) in LOCKED {
+        let mut bytes = Vec::from_slice(rt.alloc(), &START[..8])?;
+        bytes.extend_from_slice(&65536u32.to_be_bytes())?;
+        bytes.extend_from_slice(&commit.to_be_bytes())?;
+        bytes.extend_from_slice(&[0, 0, 0, 0, 0, 0, 0, 2, 0, 0, 0, 0, 0, 0, 0, 2])?;
+        bytes.extend_from_slice(&START[32..])?;
+        bytes.extend_from_slice(&REST)?;
+        bytes.extend_from_slice(&number.to_be_bytes())?;
+        bytes.extend_from_slice(&[0; 2])?;
+        bytes.extend_from_slice(&vec![in rt.alloc(); 5u8; 65536]?)?;
+        bytes.extend_from_slice(&[0; 14])?;
+        let file = summed(rt.alloc(), &bytes)?;
+        assert_eq!(rt; fault_of(rt.alloc(), &file), fault, "of {commit} pages");
+    }
     Ok(())
 }

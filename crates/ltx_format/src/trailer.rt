@@ -1,4 +1,4 @@
-//! The end of a file, behind its blocks.
+//! The end of a file, behind its blocks and its index.
 
 ghost use Rattle.std.specs.Prelude.{◌≡◌};
 ghost use Rattle.ltx_format.specs.LtxFormat as spec;
@@ -9,7 +9,7 @@ use crate::field::u64_at;
 use ls_sums::Crc64;
 
 /// The bit that is set in each sum of a file.
-const TOP_BIT: u64 = 1 << 63;
+pub(crate) const TOP_BIT: u64 = 1 << 63;
 
 /// The sum that a file of these bytes carries behind them.
 pub(crate) fn file_sum(bytes: &[u8]) -> u64
@@ -20,8 +20,8 @@ pub(crate) fn file_sum(bytes: &[u8]) -> u64
     check.finish() | TOP_BIT
 }
 
-/// Tests the end of the file, behind its blocks: post-apply checksum 0, the sum of all bytes before it, and
-/// nothing behind it.
+/// Tests the end of the file, behind its blocks and its index: post-apply checksum 0, the sum of all bytes
+/// before it, and nothing behind it.
 #[tactic(auto, unfolding(crate::specs::Reading::end_at))]
 pub(crate) fn end_of(file: &[u8], bytes: &[u8]) -> Result<(), LtxFault>
     ensures { Reads (λ _. tt) result (end_at file.now bytes.now) }
