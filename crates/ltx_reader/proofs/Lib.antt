@@ -1,0 +1,13 @@
+pub mod ReaderGivenLemmas
+pub mod ReaderFillLemmas
+pub mod ReaderTestLemmas
+pub mod ReaderTrailerLemmas
+pub mod ReaderHeaderLemmas
+pub mod ReaderIndexLemmas
+pub mod ReaderEndLemmas
+pub mod ReaderNextLemmas
+pub mod ReaderBlockLemmas
+pub mod ReaderProgressLemmas
+pub mod ReaderPageLemmas
+pub mod ReaderBeginLemmas
+pub mod ReaderLawLemmas

@@ -1,0 +1,4 @@
+pub mod Reader
+pub mod ReaderGiven
+pub mod ReaderSteps
+pub mod ReaderCause
