@@ -1,7 +1,7 @@
 -- The log that files tell.
 use Rattle.std.proofs.Common.{◌≡◌, ℕ, suc, ◌<◌, ◌≤◌, List, [], ◌++◌, length, take, replicate, Option, Some, sym, ap, subst, ◌∙◌, inl, inr, length-append, arith}
 use Rattle.std.specs.Prelude.{unwrap_or}
-use Rattle.std.specs.FinMap.{get}
+use Rattle.std.specs.FinMap.{get, keys}
 use Rattle.std.specs.List.{slice_get}
 use Rattle.std.proofs.Math.Seq.{take-append_seam}
 use Rattle.std.proofs.lemmas.Bool.{cases_lt}
@@ -12,7 +12,7 @@ use Rattle.ls_base.specs.SyncLog.{SyncLog, line_of}
 use Rattle.ls_base.proofs.StateLemmas.{lists_by_elements}
 use Rattle.ls_base.specs.Change.{Change}
 use Rattle.ltx_format.specs.declared.header.LtxHeader.{LtxHeader}
-use Rattle.ltx_format.specs.LtxFormat.{HasHeader, IsLtxFile, header_bytes, page_blocks}
+use Rattle.ltx_format.specs.LtxFormat.{HasHeader, IsLtxFile, header_bytes, page_blocks, index_part}
 use Rattle.ltx_format.proofs.FrontLemmas.{same_header}
 use Rattle.ltx_format.proofs.HeaderLaws.{header-length}
 use Rattle.replica_store.specs.declared.file_name.FileName.{FileName}
@@ -25,18 +25,24 @@ use Rattle.replica_store.specs.Listing.{path_of, bytes_under}
 use Rattle.replica_store.proofs.FaithLemmas.{there_with}
 use Rattle.replica_store.proofs.LogLemmas.{line_of-longer, longer_by}
 
-front : (n : ℕ) (a b c d e : List ℕ) → n ≡ length a → take n (a ++ b ++ c ++ d ++ e) ≡ a
-front n a b c d e is =
-    take-append-le n (a ++ b ++ c ++ d) e (omega (arith, is, length-append (a ++ b ++ c) d, length-append (a ++ b) c, length-append a b))
-    ∙ take-append-le n (a ++ b ++ c) d (omega (arith, is, length-append (a ++ b) c, length-append a b))
-    ∙ take-append-le n (a ++ b) c (omega (arith, is, length-append a b))
+front : (n : ℕ) (a b c d e f : List ℕ) → n ≡ length a → take n (a ++ b ++ c ++ d ++ e ++ f) ≡ a
+front n a b c d e f is =
+    let two : n ≤ length (a ++ b) = omega (arith, is, length-append a b) in
+    let three : n ≤ length (a ++ b ++ c) = omega (arith, two, length-append (a ++ b) c) in
+    let four : n ≤ length (a ++ b ++ c ++ d) = omega (arith, three, length-append (a ++ b ++ c) d) in
+    let five : n ≤ length (a ++ b ++ c ++ d ++ e) = omega (arith, four, length-append (a ++ b ++ c ++ d) e) in
+    take-append-le n (a ++ b ++ c ++ d ++ e) f five ∙ take-append-le n (a ++ b ++ c ++ d) e four
+    ∙ take-append-le n (a ++ b ++ c) d three ∙ take-append-le n (a ++ b) c two
     ∙ ap (λ (k : ℕ). take k (a ++ b)) is ∙ take-append_seam a b
 
 -- a file begins with its header
 pub begins_with_header : (bytes : List ℕ) (h : LtxHeader) (c : Change) → IsLtxFile bytes h c → HasHeader bytes h
 begins_with_header bytes h c is = record {
   header = is.header;
-  spelled = ap (take 100) is.spelled ∙ front 100 (header_bytes h) (page_blocks c.pages) (replicate 6 0) (replicate 8 0) _ (sym (header-length h));
+  spelled =
+      let index = index_part h.index (keys c.pages) in
+      ap (take 100) is.spelled
+      ∙ front 100 (header_bytes h) (page_blocks c.pages) (replicate 6 0) index (replicate 8 0) _ (sym (header-length h));
 }
 
 -- what a faithful file under a name tells

@@ -7,7 +7,7 @@ use Rattle.std.specs.List.{AllByRecursion}
 use Rattle.std.specs.List.Sorted.{IsNonDecreasing}
 use Rattle.std.specs.Option.{option_or}
 use Rattle.std.specs.Ordering.{nat_cmp}
-use Rattle.std.proofs.lemmas.Bool.{cases_lt}
+use Rattle.std.proofs.lemmas.Bool.{cases_lt, eqb-false}
 use Rattle.std.proofs.lemmas.Option.{none-some}
 use Rattle.crash_disk.specs.Files.{Files, files_after}
 use Rattle.crash_disk.proofs.FileLaws.{at_name, at_other}
@@ -18,6 +18,7 @@ use Rattle.ls_base.specs.State.{State, empty_state, page_of}
 use Rattle.ls_base.specs.SyncLog.{SyncLog, recorded_state}
 use Rattle.ls_base.proofs.ChangeLemmas.{page_of-apply, length-apply}
 use Rattle.ls_base.proofs.StateLemmas.{same_states}
+use Rattle.ltx_format.specs.LtxFormat.{IsStored}
 use Rattle.ltx_format.specs.declared.header.LtxHeader.{LtxHeader}
 use Rattle.replica_store.specs.declared.file_name.FileName.{FileName}
 use Rattle.replica_store.specs.Faithful.{MayFollow, TurnsInto, IsFaithfulFile, IsFaithful}
@@ -56,20 +57,34 @@ apply_again s c fits =
     let high : p ≤ c.commit = omega (arith, within, length-apply (apply s c) c) in
     page_of-apply (apply s c) c p (applies_again s c fits) low high ∙ again_page s c p fits low high ∙ sym (page_of-apply s c p fits low high))
 
--- ---- a file that holds every page fits nothing
+-- ---- a file of the whole database fits nothing before it
 
 or_some : (o p : Option (List ℕ)) → IsSome o → IsSome (option_or o p)
 or_some None p some = let e : false ≡ true = some in absurd cc
 or_some (Some page) p some = refl
 
-where_some : (b : Bool) (s : State) (c : Change) (p : ℕ) → IsSome (get c.pages p) → IsSome (page_where b s c p)
-where_some true s c p some = refl
-where_some false s c p some = or_some (get c.pages p) (page_of s p) some
+-- the lock page is there always, and any other page where the change has it
+where_some : (b : Bool) (s : State) (c : Change) (p : ℕ) → (b ≡ false → IsSome (get c.pages p)) →
+    IsSome (page_where b s c p)
+where_some true s c p has = refl
+where_some false s c p has = or_some (get c.pages p) (page_of s p) (has refl)
+
+-- the numbers up to the commit, but for the lock page's, are those that may be stored
+may_be_stored : (h : LtxHeader) (size p : ℕ) → size ≡ h.size → 1 ≤ p → p ≤ h.commit →
+    (p == lock_page size) ≡ false → IsStored h p
+may_be_stored h size p same low high other = record {
+  some = low;
+  at_most = high;
+  unlocked = λ locked. eqb-false p (lock_page size) other (locked ∙ ap lock_page (sym same));
+}
 
 whole_fits : (whole : List ℕ) (h : LtxHeader) (c : Change) → IsFileOf whole 1 1 h c → IsApplicable empty_state c
 whole_fits whole h c is = record {
   same_size = λ size none. absurd (none-some size none);
-  each = λ p low high. where_some (p == lock_page c.page_size) empty_state c p (is.file.pages.whole is.from_min p low (omega (arith, high, is.file.same_commit)));
+  each = λ p low high.
+      let upto : p ≤ h.commit = omega (arith, high, is.file.same_commit) in
+      where_some (p == lock_page c.page_size) empty_state c p
+      (λ other. is.file.pages.whole is.from_min p (may_be_stored h c.page_size p is.file.same_size low upto other));
 }
 
 -- ---- the files

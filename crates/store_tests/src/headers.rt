@@ -3,6 +3,7 @@
 use crash_disk::MemDisk;
 use ltx_format::LtxFault;
 use replica_store::{Damage, StoreError, dated, header_of, list, read_name};
+use std::alloc::Global;
 use std::test::Fail;
 
 const FIRST: &str = "ltx/9/0000000000000001-0000000000000001.ltx";
@@ -51,6 +52,27 @@ fn a_header_is_read_under_its_name_alone(rt: HostRuntime) -> Result<(), Fail> {
         none,
         Err(StoreError::Damaged(absent, Damage::File(LtxFault::Short)))
     );
+    Ok(())
+}
+
+/// The header with these flags; whether it says that an index stands in its file.
+fn is_indexed(alloc: Global, flags: u8) -> Result<Result<bool, StoreError>, Fail> {
+    let mut store = MemDisk::new(alloc);
+    let mut header = *HEADER;
+    header[7] = flags;
+    store.put_file(FIRST, &header)?;
+    let first = read_name(FIRST).ok_or("no name")?;
+    Ok(header_of(&mut store, &first).map(|header| header.index))
+}
+
+#[test]
+fn flags_6_stand_for_an_index(rt: HostRuntime) -> Result<(), Fail> {
+    let first = read_name(FIRST).ok_or("no name")?;
+    let refused = |fault| Err(StoreError::Damaged(first, Damage::File(fault)));
+    assert_eq!(rt; is_indexed(rt.alloc(), 2)?, Ok(false));
+    assert_eq!(rt; is_indexed(rt.alloc(), 6)?, Ok(true));
+    assert_eq!(rt; is_indexed(rt.alloc(), 4)?, refused(LtxFault::BadFlags));
+    assert_eq!(rt; is_indexed(rt.alloc(), 7)?, refused(LtxFault::Compressed));
     Ok(())
 }
 

@@ -13,6 +13,8 @@ mod changes;
 #[cfg(test)]
 mod content;
 #[cfg(test)]
+mod damage_texts;
+#[cfg(test)]
 mod faults;
 #[cfg(test)]
 mod headers;
