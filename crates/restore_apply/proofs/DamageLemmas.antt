@@ -1,5 +1,5 @@
 -- A plan makes one state. Where it makes one, none of its files is damaged and no page is missing.
-use Rattle.std.proofs.Common.{◌≡◌, ℕ, ◌≤◌, List, [], ◌∷◌, ◌++◌, map, Some, None, refl, sym, ap, subst, ◌∙◌, ⊎_elim}
+use Rattle.std.proofs.Common.{◌≡◌, ℕ, List, [], ◌∷◌, ◌++◌, map, Some, None, refl, sym, ap, subst, ◌∙◌, ⊎_elim}
 use Rattle.std.specs.Prelude.{Option, IsSome}
 use Rattle.crash_disk.specs.Files.{Files}
 use Rattle.ls_base.specs.Change.{Change, IsApplicable, apply, page_after}

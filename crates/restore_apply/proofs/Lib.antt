@@ -6,3 +6,4 @@ pub mod OutputLemmas
 pub mod RestoreLemmas
 pub mod DamageLemmas
 pub mod Theorems
+pub mod StandardFacts

@@ -3,7 +3,6 @@ use Rattle.std.proofs.Common.{◌≡◌, ℕ, zero, suc, ◌+◌, List, [], ◌�
 use Rattle.std.specs.Prelude.{slice_get}
 use Rattle.std.proofs.lemmas.List.{take_all}
 use Rattle.std.proofs.lemmas.Option.{slice_get_within, get_or_from_slice_get}
-use Rattle.crash_disk.specs.declared.event.Event.{Event}
 use Rattle.crash_disk.specs.Files.{Files, files_after}
 use Rattle.crash_disk.specs.GoesOn.{GoesOn}
 use Rattle.crash_disk.specs.Told.{Told, IfTold}
@@ -15,6 +14,7 @@ use Rattle.replica_store.specs.FileOf.{IsFileUnder, AreFilesUnder}
 use Rattle.replica_store.specs.declared.file_name.FileName.{FileName}
 use Rattle.restore_apply.specs.declared.restored.RestoreFault.{RestoreFault}
 use Rattle.restore_apply.specs.declared.restored.RestoreFault.TheVariants.{Damaged, PageMissing, Store, Target, Memory}
+use Rattle.restore_apply.specs.declared.sources.Source.{Source}
 use Rattle.restore_apply.specs.Restoring.{ArePlanFiles, Makes, IsFirstMissing, ExplainsRestore}
 use Rattle.restore_apply.specs.Sources.{sourced_bytes, AreSourcesOf, MakeSources, IsMissingAt, ExplainsSources, HaveOneSize}
 use Rattle.restore_apply.specs.Staging.{Settles, MaySettle, WritesFile, MayWriteFile}
@@ -26,7 +26,7 @@ are_plan_files : (store : Files) (plan : List FileName) (files : List LtxFile) �
 are_plan_files store plan files are size = record { are = are; size = size.size; one_size = size.each }
 
 -- the files of the plan make the state of the sources
-pub makes_of : (store : Files) (plan : List FileName) (files : List LtxFile) (sources : List ℕ) (made : MakeSources files (length files) sources) → AreFilesUnder store plan files → HaveOneSize files → Makes store plan made.state
+pub makes_of : (store : Files) (plan : List FileName) (files : List LtxFile) (sources : List Source) (made : MakeSources files (length files) sources) → AreFilesUnder store plan files → HaveOneSize files → Makes store plan made.state
 makes_of store plan files sources made are size = record {
   read = files;
   are = are_plan_files store plan files are size;
@@ -81,18 +81,18 @@ explains_missing store plan name target store_before store_now target_before tar
 explains_missing store plan name target store_before store_now target_before target_now files Memory are size why = refl
 
 -- the bytes of sources that were lent
-lent_bytes : (files lent : List LtxFile) (sources sources_lent : List ℕ) (s : State) → lent ≡ files → sources_lent ≡ sources → AreSourcesOf files sources s → sourced_bytes lent sources_lent ≡ state_bytes s
+lent_bytes : (files lent : List LtxFile) (sources sources_lent : List Source) (s : State) → lent ≡ files → sources_lent ≡ sources → AreSourcesOf files sources s → sourced_bytes lent sources_lent ≡ state_bytes s
 lent_bytes files lent sources sources_lent s same sources_same are =
-    ap (λ (fs : List LtxFile). sourced_bytes fs sources_lent) same ∙ ap (λ (ss : List ℕ). sourced_bytes files ss) sources_same ∙ bytes_are files sources s are
+    ap (λ (fs : List LtxFile). sourced_bytes fs sources_lent) same ∙ ap (λ (ss : List Source). sourced_bytes files ss) sources_same ∙ bytes_are files sources s are
 
 -- what was written is the state
-pub state_written : (old new : Told) (name : List ℕ) (files lent : List LtxFile) (sources sources_lent : List ℕ) (s : State) → lent ≡ files → sources_lent ≡ sources → AreSourcesOf files sources s
+pub state_written : (old new : Told) (name : List ℕ) (files lent : List LtxFile) (sources sources_lent : List Source) (s : State) → lent ≡ files → sources_lent ≡ sources → AreSourcesOf files sources s
     → GoesOn old new (Settles name (sourced_bytes lent sources_lent)) → GoesOn old new (WritesFile name (state_bytes s))
 state_written old new name files lent sources sources_lent s same sources_same are went =
     goes_on-weaker old new (Settles name (sourced_bytes lent sources_lent)) (WritesFile name (state_bytes s)) went
     (λ x y settles. subst (λ (bytes : List ℕ). WritesFile name bytes x y) (lent_bytes files lent sources sources_lent s same sources_same are) (writes-from_settles name (sourced_bytes lent sources_lent) x y settles))
 
-pub state_maybe_written : (old new : Told) (name : List ℕ) (files lent : List LtxFile) (sources sources_lent : List ℕ) (s : State) → lent ≡ files → sources_lent ≡ sources → AreSourcesOf files sources s
+pub state_maybe_written : (old new : Told) (name : List ℕ) (files lent : List LtxFile) (sources sources_lent : List Source) (s : State) → lent ≡ files → sources_lent ≡ sources → AreSourcesOf files sources s
     → GoesOn old new (MaySettle name (sourced_bytes lent sources_lent)) → GoesOn old new (MayWriteFile name (state_bytes s))
 state_maybe_written old new name files lent sources sources_lent s same sources_same are went =
     goes_on-weaker old new (MaySettle name (sourced_bytes lent sources_lent)) (MayWriteFile name (state_bytes s)) went

@@ -1,6 +1,6 @@
 -- Where a replica's files tell the truth, the files of a chain to a transaction make its recorded state.
-use Rattle.std.proofs.Common.{◌≡◌, ℕ, ◌<◌, ◌≤◌, get_or, List, [], ◌∷◌, map, Option, Some, None, refl, sym, ap, subst, ◌∙◌, inl, inr, arith}
-use Rattle.std.specs.Prelude.{unwrap_or, is_some, IsSome}
+use Rattle.std.proofs.Common.{◌≡◌, ℕ, ◌<◌, ◌≤◌, List, [], ◌∷◌, map, Option, Some, None, refl, sym, ap, subst, ◌∙◌, inl, inr, arith}
+use Rattle.std.specs.Prelude.{unwrap_or, IsSome}
 use Rattle.std.specs.List.{AllByRecursion, All, Contains}
 use Rattle.std.proofs.lemmas.List.{get_or-map, length-map}
 use Rattle.std.specs.FinMap.{get}
@@ -18,7 +18,6 @@ use Rattle.replica_store.specs.Chain.{LeadsTo, IsChain, BeginsOnce}
 use Rattle.replica_store.specs.Faithful.{MayFollow, IsFaithfulFile, IsFaithful}
 use Rattle.replica_store.specs.FileOf.{IsFileUnder, AreFilesUnder, HavePageSize}
 use Rattle.replica_store.specs.Listing.{IsValid, AreListed, path_of, paths_of, bytes_under}
-use Rattle.restore_apply.specs.Restoring.{Makes}
 use Rattle.restore_apply.specs.RestoreLaws.{MakesRecorded}
 
 valid_in : (names : List FileName) (name : FileName) → All IsValid names → Contains names name → IsValid name

@@ -1,7 +1,8 @@
 -- What the files of a plan make, whatever the files are.
-use Rattle.std.specs.Prelude.{◌≡◌, ℕ, ◌≤◌, List, Some}
+use Rattle.std.specs.Prelude.{◌≡◌, ◌≢◌, ℕ, ◌≤◌, List, Some}
 use Rattle.crash_disk.specs.Files.{Files}
 use Rattle.ls_base.specs.History.{History}
+use Rattle.ls_base.specs.PageSize.{lock_page}
 use Rattle.ls_base.specs.State.{State}
 use Rattle.ls_base.specs.SyncLog.{SyncLog, recorded_state}
 use Rattle.ltx_format.specs.declared.file.LtxFile.{LtxFile}
@@ -42,3 +43,9 @@ abbrev pub MadeStatesAreWhole : Type 0
 MadeStatesAreWhole =
     (files : Files) (plan : List FileName) (state : State) (name : FileName) (number : ℕ)
     → Makes files plan state → IsFirstMissing files plan name number → ⊥
+
+-- the page that is missing is never the lock page, which no file has
+abbrev pub MissingPagesAreStored : Type 0
+MissingPagesAreStored =
+    (files : Files) (plan : List FileName) (name : FileName) (number : ℕ)
+    → (missing : IsFirstMissing files plan name number) → number ≢ lock_page missing.file.header.size

@@ -39,8 +39,11 @@ pub fn restore<S: Disk, T: Disk>(
 ) -> Result<Restored, RestoreFault>
     requires some { plan.now ≢ [] }
     requires absent { IfTold (T.told target.old) (λ events. file_at events name.now ≡ None) }
-    ensures ok { IfOk result (λ restored. IfTold (S.told store.old) (λ events. Restores (files_after events) plan.now name.now (T.told target.old) (T.told target.new) restored)) }
-    ensures explained { IfErr result (ExplainsRestore (S.told store.old) plan.now name.now (T.told target.old) (T.told target.new) (S.fault_count store.old) (S.fault_count store.new) (T.fault_count target.old) (T.fault_count target.new)) }
+    ensures ok { IfOk result (λ restored. IfTold (S.told store.old) (λ events. Restores
+        (files_after events) plan.now name.now (T.told target.old) (T.told target.new) restored)) }
+    ensures explained { IfErr result (ExplainsRestore (S.told store.old) plan.now name.now (T.told target.old)
+        (T.told target.new) (S.fault_count store.old) (S.fault_count store.new) (T.fault_count target.old)
+        (T.fault_count target.new)) }
     ensures store_unchanged { S.told store.new ≡ S.told store.old }
     ensures same_folder { S.folder store.new ≡ S.folder store.old }
     ensures same_target_folder { T.folder target.new ≡ T.folder target.old }

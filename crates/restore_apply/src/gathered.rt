@@ -1,6 +1,6 @@
 //! Bytes gathered for a file.
 
-ghost use Rattle.std.specs.Prelude.{◌≡◌, ◌+◌, ◌≤◌, [], length, IfOk, OnOk, OnErr};
+ghost use Rattle.std.specs.Prelude.{◌≡◌, ◌+◌, ◌≤◌, [], length, replicate, IfOk, OnOk, OnErr};
 ghost use Rattle.ls_base.specs.Fault.{HasCause};
 ghost use Rattle.crash_disk.specs.Told.{IfTold};
 ghost use Rattle.crash_disk.specs.Files.{IsThere};
@@ -43,7 +43,8 @@ impl Gathered {
     /// Appends what is gathered to the file.
     pub fn flush<D: Disk>(&mut self, disk: &mut D, name: &str) -> Result<(), DiskFault>
         requires there { IfTold (D.told disk.old) (λ events. IsThere events name.now) }
-        ensures ok { OnOk result (GoesOn (D.told disk.old) (D.told disk.new) (AppendsGathered name.now self.old [] [])) }
+        ensures ok { OnOk result (GoesOn (D.told disk.old) (D.told disk.new)
+            (AppendsGathered name.now self.old [] [])) }
         ensures empty { OnOk result (self.new ≡ []) }
         ensures err { OnErr result (GoesOn (D.told disk.old) (D.told disk.new) (OnlyAppends name.now)) }
         ensures same_folder { D.folder disk.new ≡ D.folder disk.old }
@@ -57,7 +58,8 @@ impl Gathered {
     fn make_room<D: Disk>(&mut self, disk: &mut D, name: &str, more: usize) -> Result<(), DiskFault>
         requires there { IfTold (D.told disk.old) (λ events. IsThere events name.now) }
         requires small { more ≤ GATHERED_BYTES }
-        ensures ok { OnOk result (GoesOn (D.told disk.old) (D.told disk.new) (AppendsGathered name.now self.old [] self.new)) }
+        ensures ok { OnOk result (GoesOn (D.told disk.old) (D.told disk.new)
+            (AppendsGathered name.now self.old [] self.new)) }
         ensures room { OnOk result (length self.new + more ≤ GATHERED_BYTES) }
         ensures err { OnErr result (GoesOn (D.told disk.old) (D.told disk.new) (OnlyAppends name.now)) }
         ensures same_folder { D.folder disk.new ≡ D.folder disk.old }
@@ -73,13 +75,34 @@ impl Gathered {
     pub fn put<D: Disk>(&mut self, disk: &mut D, name: &str, bytes: &[u8]) -> Result<(), DiskFault>
         requires there { IfTold (D.told disk.old) (λ events. IsThere events name.now) }
         requires small { length bytes.now ≤ GATHERED_BYTES }
-        ensures ok { OnOk result (GoesOn (D.told disk.old) (D.told disk.new) (AppendsGathered name.now self.old bytes.now self.new)) }
+        ensures ok { OnOk result (GoesOn (D.told disk.old) (D.told disk.new)
+            (AppendsGathered name.now self.old bytes.now self.new)) }
         ensures err { OnErr result (GoesOn (D.told disk.old) (D.told disk.new) (OnlyAppends name.now)) }
         ensures same_folder { D.folder disk.new ≡ D.folder disk.old }
         ensures cause { HasCause (D.fault_count disk.old) (D.fault_count disk.new) result }
     {
         self.make_room(disk, name, bytes.len())?;
         self.bytes.extend_from_slice(bytes).unwrap();
+        Ok(())
+    }
+
+    /// Gathers so many zeros, and appends to the file what was gathered before where there is no room for both.
+    pub fn put_zeros<D: Disk>(
+        &mut self,
+        disk: &mut D,
+        name: &str,
+        count: usize,
+    ) -> Result<(), DiskFault>
+        requires there { IfTold (D.told disk.old) (λ events. IsThere events name.now) }
+        requires small { count ≤ GATHERED_BYTES }
+        ensures ok { OnOk result (GoesOn (D.told disk.old) (D.told disk.new) (AppendsGathered name.now self.old
+            (replicate count 0) self.new)) }
+        ensures err { OnErr result (GoesOn (D.told disk.old) (D.told disk.new) (OnlyAppends name.now)) }
+        ensures same_folder { D.folder disk.new ≡ D.folder disk.old }
+        ensures cause { HasCause (D.fault_count disk.old) (D.fault_count disk.new) result }
+    {
+        self.make_room(disk, name, count)?;
+        self.bytes.resize(self.bytes.len() + count, 0).unwrap();
         Ok(())
     }
 }

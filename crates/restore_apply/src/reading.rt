@@ -51,10 +51,12 @@ fn read_file<S: Disk>(
     name: &FileName,
     wanted: Option<PageSize>,
 ) -> Result<LtxFile, RestoreFault>
-    ensures found { IfOk result (λ file. IfTold (S.told store.old) (λ events. IsFileUnder (files_after events) name.now file)) }
+    ensures found { IfOk result (λ file. IfTold (S.told store.old) (λ events. IsFileUnder
+        (files_after events) name.now file)) }
     ensures formed { IfOk result IsFormed }
     ensures size { IfOk result (FitsSize wanted) }
-    ensures explained { IfErr result (ExplainsRead (S.told store.old) (S.fault_count store.old) (S.fault_count store.new) name.now wanted) }
+    ensures explained { IfErr result (ExplainsRead (S.told store.old) (S.fault_count store.old)
+        (S.fault_count store.new) name.now wanted) }
     ensures unchanged { S.told store.new ≡ S.told store.old }
     ensures same_folder { S.folder store.new ≡ S.folder store.old }
     ensures later { S.fault_count store.old ≤ S.fault_count store.new }
@@ -69,11 +71,13 @@ pub fn read_files<S: Disk>(
     store: &mut S,
     plan: &[FileName],
 ) -> Result<Vec<LtxFile>, RestoreFault>
-    ensures found { IfOk result (λ files. IfTold (S.told store.old) (λ events. AreFilesUnder (files_after events) plan.now files.items)) }
+    ensures found { IfOk result (λ files. IfTold (S.told store.old) (λ events. AreFilesUnder
+        (files_after events) plan.now files.items)) }
     ensures formed { IfOk result (λ files. AllByRecursion IsFormed files.items) }
     ensures one_size { IfOk result (λ files. HaveOneSize files.items) }
     ensures count { IfOk result (λ files. length files.items ≡ length plan.now) }
-    ensures explained { IfErr result (ExplainsReads (S.told store.old) (S.fault_count store.old) (S.fault_count store.new) plan.now) }
+    ensures explained { IfErr result (ExplainsReads (S.told store.old) (S.fault_count store.old)
+        (S.fault_count store.new) plan.now) }
     ensures unchanged { S.told store.new ≡ S.told store.old }
     ensures same_folder { S.folder store.new ≡ S.folder store.old }
     ensures later { S.fault_count store.old ≤ S.fault_count store.new }

@@ -1,7 +1,8 @@
-use Rattle.std.proofs.Common.{ℕ, List, length, refl, sym, subst, arith}
+use Rattle.std.proofs.Common.{List, length, refl, sym, subst, arith}
 use Rattle.std.proofs.lemmas.Grind.{common_steps}
 use Rattle.crash_disk.specs.Files.{files_after}
 use Rattle.ltx_format.specs.declared.file.LtxFile.{LtxFile}
+use Rattle.restore_apply.specs.declared.sources.Source.{Source}
 use Rattle.restore_apply.specs.Restoring.{ExplainsRestore}
 use Rattle.restore_apply.specs.Sources.{MakeSources, ExplainsSources, HoldsEachPage}
 use Rattle.restore_apply.proofs.PlanLemmas.{err_is}
@@ -29,7 +30,7 @@ write_output-requires-clause-whole g c =
     let sources = c.in_ok-sources.sources.items in
     let made = subst (λ (fs : List LtxFile). MakeSources fs (length fs) sources) c.deref.ensures.value c.in_ok-sources.ensures.found in
     subst (λ (fs : List LtxFile). HoldsEachPage fs c.deref-3.result.now) (sym c.deref-2.ensures.value)
-    (subst (λ (ss : List ℕ). HoldsEachPage files ss) (sym c.deref-3.ensures.value) (each_page files sources made.state c.in_ok-files.ensures.formed made.sourced))
+    (subst (λ (ss : List Source). HoldsEachPage files ss) (sym c.deref-3.ensures.value) (each_page files sources made.state c.in_ok-files.ensures.formed made.sourced))
 
 pub returns-in-Err-clause-explained : goal.returns-in-Err-clause-explained
 returns-in-Err-clause-explained g c =

@@ -1,9 +1,8 @@
-use Rattle.std.proofs.Common.{List, ℕ, Some, refl, subst, ◌≡◌, ◌<◌, length, arith}
+use Rattle.std.proofs.Common.{List, Some, refl, subst, ◌≡◌, ◌<◌, length, arith}
 use Rattle.std.specs.Prelude.{slice_get}
 use Rattle.std.proofs.lemmas.Option.{slice_get_read}
-use Rattle.ls_base.proofs.StateLemmas.{all_at}
 use Rattle.ltx_format.specs.LtxFormat.{change_of}
-use Rattle.restore_apply.specs.PlanFiles.{IsFormed}
+use Rattle.restore_apply.specs.declared.sources.Source.{Source}
 use Rattle.restore_apply.specs.Sources.{FollowSources, ExplainsFollow, ExplainsSources}
 use Rattle.restore_apply.proofs.PlanLemmas.{err_is}
 use Rattle.restore_apply.proofs.SourceLemmas.{make_next, explains_sources}
@@ -19,20 +18,18 @@ returns-in_err-sources-clause-explained c =
     let fault = c.in_err-sources.field-0.0 in
     let below : place < length plan = omega (arith, c.loop-place-test.true, c.requires.same_count) in
     let is : slice_get files place ≡ Some file = slice_get_read files _ place file refl c.loop-place-test.true c.index-files-place.is in
-    let formed = all_at IsFormed files place file c.requires.formed is in
     let named : slice_get plan place ≡ Some name = slice_get_read plan _ place name refl below c.index-plan-place.is in
-    let why = subst (λ (sources : List ℕ). ExplainsFollow sources (change_of file) place name fault) c.deref.ensures.value c.in_err-sources.ensures.explained in
-    err_is c.from_residual.result fault (ExplainsSources plan files) c.from_residual.ensures.1 (explains_sources plan files place c.loop-place.sources.items file name fault c.loop-place.invariant.made is formed named why)
+    let why = subst (λ (sources : List Source). ExplainsFollow sources (change_of file) place name fault) c.deref.ensures.value c.in_err-sources.ensures.explained in
+    err_is c.from_residual.result fault (ExplainsSources plan files) c.from_residual.ensures.1 (explains_sources plan files place c.loop-place.sources.items file name fault c.requires.one_size c.loop-place.invariant.made is named why)
 
 pub loop-place-preserved : goal.loop-place-preserved
 loop-place-preserved c =
     let file = c.index-files-place.result in
     let place = c.loop-place.place in
     let is : slice_get c.args.files.now place ≡ Some file = slice_get_read c.args.files.now _ place file refl c.loop-place-test.true c.index-files-place.is in
-    let formed = all_at IsFormed c.args.files.now place file c.requires.formed is in
     let after = c.in_ok-sources.sources.items in
     record {
-      made = make_next c.args.files.now place c.loop-place.sources.items after file c.requires.one_size c.loop-place.invariant.made is formed
-          (subst (λ (sources : List ℕ). FollowSources sources (change_of file) place file.header.commit after) c.deref.ensures.value c.in_ok-sources.ensures.found);
+      made = make_next c.args.files.now place c.loop-place.sources.items after file c.requires.one_size c.loop-place.invariant.made is
+          (subst (λ (sources : List Source). FollowSources sources (change_of file) place file.header.commit after) c.deref.ensures.value c.in_ok-sources.ensures.found);
       few = c.in_ok-sources.ensures.few;
     }
