@@ -1,3 +1,10 @@
 pub mod Queue
 pub mod Wanted
 pub mod LastPages
+pub mod Blocks
+pub mod PlanFiles
+pub mod Cursor
+pub mod Opening
+pub mod Fault
+pub mod Ending
+pub mod Cursors

@@ -1,5 +1,6 @@
 -- Cursors that wait with numbers.
-use Rattle.std.specs.Prelude.{◌≡◌, ℕ, ◌≤◌, List, replicate, Option, Some, None, slice_get}
+use Rattle.std.specs.Prelude.{◌≡◌, ℕ, ◌<◌, ◌≤◌, length, List, replicate, Option, Some, None, slice_get, nat_lt}
+use Rattle.std.specs.Prelude.{if◌then◌else◌}
 use Rattle.std.specs.List.{Contains}
 use Rattle.std.specs.Ordering.{nat_cmp, ordering_then}
 use Rattle.std.specs.declared.cmp.Ordering.{Ordering}
@@ -26,6 +27,11 @@ pub record IsLeast (numbers : List (Option ℕ)) (next : ℕ × ℕ) : Type 0 wh
   pub least : (place number : ℕ) → Waits numbers place number → next.0 ≤ number
   pub earliest : (place : ℕ) → Waits numbers place next.0 → next.1 ≤ place
 
+-- the next number, where it is above the last
+abbrev pub number_above : ℕ → Option ℕ → Option ℕ
+number_above last None = None
+number_above last (Some next) = if nat_lt last next then Some next else None
+
 -- no cursor waits
 abbrev pub NoneWaits : List (Option ℕ) → Type 0
 NoneWaits numbers = (place number : ℕ) → Waits numbers place number → ⊥
@@ -40,3 +46,7 @@ entry_of number place = record { 0 = (number, place) }
 -- there is an entry for each cursor that waits
 abbrev pub HoldsEach : List (Reverse (ℕ × ℕ)) → List (Option ℕ) → Type 0
 HoldsEach entries numbers = (place number : ℕ) → Waits numbers place number → Contains entries (entry_of number place)
+
+-- no cursor waits from this place on
+abbrev pub AreFresh : ℕ → List (Option ℕ) → Type 0
+AreFresh place numbers = (k : ℕ) → place ≤ k → k < length numbers → slice_get numbers k ≡ Some None

@@ -1,4 +1,5 @@
--- The numbers that a file of a chain must hold: those above the size before it and up to its own, but for the lock page.
+-- The numbers that a file of a chain must hold: those above the size before it and up to its own, but for the
+-- lock page.
 use Rattle.std.specs.Prelude.{◌≡◌, ◌≢◌, ℕ, ◌<◌, ◌≤◌, List, Some, None}
 use Rattle.std.specs.List.{Contains}
 use Rattle.page_cursors.specs.declared.wanted.Wanted.{Wanted}

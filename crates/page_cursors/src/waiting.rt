@@ -1,9 +1,11 @@
 //! The numbers with which cursors wait.
 
-ghost use Rattle.std.specs.Prelude.{◌≡◌, ◌↔◌, ◌+◌, ◌<◌, ◌≤◌, None, Some, IfOk, IfSome, IsTrue, length, slice_set};
+ghost use Rattle.std.specs.Prelude.{◌≡◌, ◌↔◌, ◌+◌, ℕ, ◌<◌, ◌≤◌, None, Some, IfOk, IfSome, IsTrue, length, slice_get};
+ghost use Rattle.std.specs.Prelude.{slice_set};
 ghost use Rattle.std.specs.Option.{IfNone};
 ghost use Rattle.std.specs.BinaryHeap.{IsHeap, heap_items, heap_len, heap_capacity};
 ghost use Rattle.page_cursors.specs.Queue.{entry_order, Queue, HoldsEach, IsEmptyQueue, IsLeast, NoneWaits, Waits};
+ghost use Rattle.page_cursors.specs.Queue.{number_above};
 
 use std::alloc::{AllocError, Global};
 use std::cmp::Reverse;
@@ -25,9 +27,13 @@ impl Model for Waiting {
 
     ghost Value = { Queue };
 
-    ghost view = { λ waiting. record { numbers = waiting.numbers.items; room = heap_capacity waiting.heap - heap_len waiting.heap } };
+    ghost view = { λ waiting. record {
+      numbers = waiting.numbers.items;
+      room = heap_capacity waiting.heap - heap_len waiting.heap;
+    } };
 
-    ghost invariant = { λ waiting. IsHeap entry_order (heap_items waiting.heap) × HoldsEach (heap_items waiting.heap) waiting.numbers.items };
+    ghost invariant = { λ waiting. IsHeap entry_order (heap_items waiting.heap)
+        × HoldsEach (heap_items waiting.heap) waiting.numbers.items };
 }
 
 impl Waiting {
@@ -51,6 +57,21 @@ impl Waiting {
         self.heap.push(Reverse((number, place))).unwrap();
     }
 
+    /// The cursor at the place, which doesn't wait, waits with the next number where that is above the last. Takes no
+    /// memory.
+    pub fn put_above(&mut self, place: usize, last: u32, next: Option<u32>)
+        requires waits_not { slice_get self.old.numbers place ≡ Some None }
+        requires room { 0 < self.old.room }
+        ensures numbers { self.new.numbers ≡ slice_set self.old.numbers place (number_above last next) }
+        ensures room { self.old.room ≤ self.new.room + 1 }
+    {
+        if let Some(next) = next {
+            if last < next {
+                self.put(place, next);
+            }
+        }
+    }
+
     /// The least number that a cursor waits with, and the place of the earliest that does; it doesn't wait any
     /// more. `None` exactly where none waits. There is room for one number more. Takes no memory.
     pub fn pop(&mut self) -> Option<(u32, usize)>
@@ -63,6 +84,36 @@ impl Waiting {
         let (number, place) = pop_waiting(&mut self.heap, &self.numbers)?;
         self.numbers[place] = None;
         Some((number, place))
+    }
+
+    /// The least number that a cursor waits with; `None` exactly where none waits. Takes no memory.
+    pub fn least(&mut self) -> Option<u32>
+        ensures some { IfSome result (λ number. (place : ℕ) × IsLeast self.old.numbers (number, place)) }
+        ensures none { IfNone result (NoneWaits self.old.numbers) }
+        ensures unchanged { self.new.numbers ≡ self.old.numbers }
+    {
+        let (number, place) = self.pop()?;
+        self.put(place, number);
+        Some(number)
+    }
+
+    /// The place of the earliest cursor that waits with this number, the least; it doesn't wait any more. `None`
+    /// exactly where none waits with it. There is room for one number more. Takes no memory.
+    pub fn pop_with(&mut self, number: u32) -> Option<usize>
+        requires least { (place other : ℕ) → Waits self.old.numbers place other → number ≤ other }
+        ensures waits { IfSome result (λ place. Waits self.old.numbers place number) }
+        ensures earliest { IfSome result (λ place. (other : ℕ) → Waits self.old.numbers other number → place ≤ other) }
+        ensures numbers { IfSome result (λ place. self.new.numbers ≡ slice_set self.old.numbers place None) }
+        ensures room { IfSome result (λ place. self.old.room + 1 ≤ self.new.room) }
+        ensures none { IfNone result ((place : ℕ) → Waits self.old.numbers place number → ⊥) }
+        ensures unchanged { IfNone result (self.new.numbers ≡ self.old.numbers) }
+    {
+        let (least, place) = self.pop()?;
+        if least != number {
+            self.put(place, least);
+            return None;
+        }
+        Some(place)
     }
 }
 

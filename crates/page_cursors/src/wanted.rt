@@ -12,27 +12,26 @@ use ls_base::PageSize;
 #[derive(Clone, Copy, Debug)]
 pub struct Wanted {
     pub lock: u32,
-    pub next: u32,
+    pub next: u64,
     pub missed: Option<u32>,
 }
 
 /// The first number above the other that isn't the lock page's.
-fn above(lock: u32, number: u32) -> u32
-    requires small { number ≤ 2 ^ 31 }
+fn above(lock: u32, number: u32) -> u64
     ensures above { number < result }
     ensures unlocked { result ≢ lock }
     ensures least { (p : ℕ) → number < p → p < result → p ≡ lock }
 {
-    if number + 1 == lock {
-        return number + 2;
+    let next = u64::from(number) + 1;
+    if next == u64::from(lock) {
+        return next + 1;
     }
-    number + 1
+    next
 }
 
 impl Wanted {
     /// Of a file with pages of this size, behind so many pages before it.
     pub fn new(size: PageSize, before: u32) -> Wanted
-        requires small { before ≤ 2 ^ 31 }
         ensures { Wants (lock_page size) before [] result }
     {
         let lock = size.lock_page();
@@ -45,17 +44,17 @@ impl Wanted {
 
     /// The file has the page of this number, which is above those before.
     pub fn take(&mut self, number: u32)
-        requires small { number ≤ 2 ^ 31 }
-        ensures { (lock above : ℕ) (numbers : List ℕ) → AreBelow numbers number → Wants lock above numbers self.old → Wants lock above (numbers ++ number ∷ []) self.new }
+        ensures { (lock above : ℕ) (numbers : List ℕ) → AreBelow numbers number → Wants lock above numbers self.old
+            → Wants lock above (numbers ++ number ∷ []) self.new }
     {
         if self.missed.is_some() {
             return;
         }
-        if number < self.next {
+        if u64::from(number) < self.next {
             return;
         }
-        if number > self.next {
-            self.missed = Some(self.next);
+        if u64::from(number) > self.next {
+            self.missed = Some(self.next as u32);
             return;
         }
         self.next = above(self.lock, number);
@@ -63,15 +62,18 @@ impl Wanted {
 
     /// The first number up to the file's size that it lacks.
     pub fn lacking(&self, commit: u32) -> Option<u32>
-        ensures some { (lock above : ℕ) (numbers : List ℕ) → AreBelow numbers (commit + 1) → Wants lock above numbers self.now → IfSome result (IsFirstLacking lock above numbers) }
-        ensures within { (lock above : ℕ) (numbers : List ℕ) → AreBelow numbers (commit + 1) → Wants lock above numbers self.now → IfSome result (λ number. number ≤ commit) }
-        ensures none { (lock above : ℕ) (numbers : List ℕ) → AreBelow numbers (commit + 1) → Wants lock above numbers self.now → IfNone result (HoldsAll lock above numbers commit) }
+        ensures some { (lock above : ℕ) (numbers : List ℕ) → AreBelow numbers (commit + 1)
+            → Wants lock above numbers self.now → IfSome result (IsFirstLacking lock above numbers) }
+        ensures within { (lock above : ℕ) (numbers : List ℕ) → AreBelow numbers (commit + 1)
+            → Wants lock above numbers self.now → IfSome result (λ number. number ≤ commit) }
+        ensures none { (lock above : ℕ) (numbers : List ℕ) → AreBelow numbers (commit + 1)
+            → Wants lock above numbers self.now → IfNone result (HoldsAll lock above numbers commit) }
     {
         if self.missed.is_some() {
             return self.missed;
         }
-        if self.next <= commit {
-            return Some(self.next);
+        if self.next <= u64::from(commit) {
+            return Some(self.next as u32);
         }
         None
     }

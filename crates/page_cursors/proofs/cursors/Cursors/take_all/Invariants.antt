@@ -1,0 +1,12 @@
+use Rattle.std.proofs.Common.{◌≡◌, ◌≤◌, length}
+use Rattle.page_cursors.proofs.NextLemmas.{IsTakingAll}
+use Rattle.page_cursors.proofs.cursors.Cursors.take_all.Given as goal
+
+abbrev pub invariant-loop : goal.invariant-loop
+invariant-loop g l = record {
+  on : IsTakingAll (g.S.Disk.told l.fn.store) l.fn.self l.self l.number l.counter;
+  count : length l.self.cursors.items ≡ l.end;
+  unchanged : g.S.Disk.told l.store ≡ g.S.Disk.told l.fn.store;
+  same_folder : g.S.Disk.folder l.store ≡ g.S.Disk.folder l.fn.store;
+  later : g.S.Disk.fault_count l.fn.store ≤ g.S.Disk.fault_count l.store;
+}
