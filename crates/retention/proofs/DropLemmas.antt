@@ -1,5 +1,5 @@
 -- The names that are left and those that go, and the transactions that are lost.
-use Rattle.std.proofs.Common.{◌≡◌, ℕ, ◌+◌, ◌<◌, ◌≤◌, inl, inr, Bool, true, false, List, [], ◌∷◌, ◌++◌, length, get_or, drop, Option, Some, None, IfSome, slice_get, sym, ap, ◌∙◌, subst, arith, append_assoc}
+use Rattle.std.proofs.Common.{◌≡◌, ℕ, ◌+◌, ◌<◌, ◌≤◌, inl, inr, Bool, true, false, List, [], ◌∷◌, ◌++◌, length, get_or, drop, Option, Some, None, IfSome, slice_get, refl, sym, ap, ◌∙◌, subst, arith, append_assoc}
 use Rattle.std.proofs.lemmas.Bool.{cases_eq}
 use Rattle.std.proofs.lemmas.List.{drop_more, drop_all, append-nil, get_or_default}
 use Rattle.std.proofs.lemmas.List.Elements.{Contains-append_left, Contains-push, Contains-get_or}
@@ -22,16 +22,48 @@ rest f kept dated i one b low count is keep =
     ∙ ap (λ ds. f (b ∷ drop (i + 1) kept) ds) (drop_more dated i one low ∙ ap (λ (d : Dated). d ∷ drop (i + 1) dated) (sym is))
 
 -- what was taken of the first names, with what the rest gives
-pub taken_on : (f : List Bool → List Dated → List FileName) (kept : List Bool) (dated : List Dated) (i : ℕ) (names : List FileName) (one : Dated) (b : Bool) → i < length dated → length kept ≡ length dated → one ≡ get_or dated i one → get_or kept i false ≡ b
+taken_on : (f : List Bool → List Dated → List FileName) (kept : List Bool) (dated : List Dated) (i : ℕ)
+    (names more : List FileName) (one : Dated) (b : Bool) → i < length dated → length kept ≡ length dated
+    → one ≡ get_or dated i one → get_or kept i false ≡ b
     → f (b ∷ drop (i + 1) kept) (one ∷ drop (i + 1) dated) ≡ one.name ∷ f (drop (i + 1) kept) (drop (i + 1) dated)
-    → names ++ f (drop i kept) (drop i dated) ≡ f kept dated → (names ++ one.name ∷ []) ++ f (drop (i + 1) kept) (drop (i + 1) dated) ≡ f kept dated
-taken_on f kept dated i names one b low count is keep takes so_far =
-    append_assoc names (one.name ∷ []) (f (drop (i + 1) kept) (drop (i + 1) dated)) ∙ ap (λ ns. names ++ ns) (sym (rest f kept dated i one b low count is keep ∙ takes)) ∙ so_far
+    → more ≡ names ++ one.name ∷ [] → names ++ f (drop i kept) (drop i dated) ≡ f kept dated
+    → more ++ f (drop (i + 1) kept) (drop (i + 1) dated) ≡ f kept dated
+taken_on f kept dated i names more one b low count is keep takes items so_far =
+    ap (λ ns. ns ++ f (drop (i + 1) kept) (drop (i + 1) dated)) items
+    ∙ append_assoc names (one.name ∷ []) (f (drop (i + 1) kept) (drop (i + 1) dated))
+    ∙ ap (λ ns. names ++ ns) (sym (rest f kept dated i one b low count is keep ∙ takes)) ∙ so_far
 
-pub passed_on : (f : List Bool → List Dated → List FileName) (kept : List Bool) (dated : List Dated) (i : ℕ) (names : List FileName) (one : Dated) (b : Bool) → i < length dated → length kept ≡ length dated → one ≡ get_or dated i one → get_or kept i false ≡ b
+passed_on : (f : List Bool → List Dated → List FileName) (kept : List Bool) (dated : List Dated) (i : ℕ)
+    (names more : List FileName) (one : Dated) (b : Bool) → i < length dated → length kept ≡ length dated
+    → one ≡ get_or dated i one → get_or kept i false ≡ b
     → f (b ∷ drop (i + 1) kept) (one ∷ drop (i + 1) dated) ≡ f (drop (i + 1) kept) (drop (i + 1) dated)
-    → names ++ f (drop i kept) (drop i dated) ≡ f kept dated → names ++ f (drop (i + 1) kept) (drop (i + 1) dated) ≡ f kept dated
-passed_on f kept dated i names one b low count is keep passes so_far = ap (λ ns. names ++ ns) (sym (rest f kept dated i one b low count is keep ∙ passes)) ∙ so_far
+    → more ≡ names → names ++ f (drop i kept) (drop i dated) ≡ f kept dated
+    → more ++ f (drop (i + 1) kept) (drop (i + 1) dated) ≡ f kept dated
+passed_on f kept dated i names more one b low count is keep passes items so_far =
+    ap (λ ns. ns ++ f (drop (i + 1) kept) (drop (i + 1) dated)) items
+    ∙ ap (λ ns. names ++ ns) (sym (rest f kept dated i one b low count is keep ∙ passes)) ∙ so_far
+
+module _ (kept : List Bool) (dated : List Dated) (i : ℕ) (names more : List FileName) (one : Dated)
+    (low : i < length dated) (count : length kept ≡ length dated) (is : one ≡ get_or dated i one) where
+  pub left_more : get_or kept i false ≡ true → more ≡ names ++ one.name ∷ []
+      → names ++ standing (drop i kept) (drop i dated) ≡ standing kept dated
+      → more ++ standing (drop (i + 1) kept) (drop (i + 1) dated) ≡ standing kept dated
+  left_more keep items so_far = taken_on standing kept dated i names more one true low count is keep refl items so_far
+
+  pub left_same : get_or kept i false ≡ false → more ≡ names
+      → names ++ standing (drop i kept) (drop i dated) ≡ standing kept dated
+      → more ++ standing (drop (i + 1) kept) (drop (i + 1) dated) ≡ standing kept dated
+  left_same keep items so_far = passed_on standing kept dated i names more one false low count is keep refl items so_far
+
+  pub gone_more : get_or kept i false ≡ false → more ≡ names ++ one.name ∷ []
+      → names ++ dropped (drop i kept) (drop i dated) ≡ dropped kept dated
+      → more ++ dropped (drop (i + 1) kept) (drop (i + 1) dated) ≡ dropped kept dated
+  gone_more keep items so_far = taken_on dropped kept dated i names more one false low count is keep refl items so_far
+
+  pub gone_same : get_or kept i false ≡ true → more ≡ names
+      → names ++ dropped (drop i kept) (drop i dated) ≡ dropped kept dated
+      → more ++ dropped (drop (i + 1) kept) (drop (i + 1) dated) ≡ dropped kept dated
+  gone_same keep items so_far = passed_on dropped kept dated i names more one true low count is keep refl items so_far
 
 pub standing_end : (kept : List Bool) (dated : List Dated) (i : ℕ) (names : List FileName) → length dated ≤ i → length kept ≡ length dated → names ++ standing (drop i kept) (drop i dated) ≡ standing kept dated → names ≡ standing kept dated
 standing_end kept dated i names end count so_far =
@@ -42,6 +74,10 @@ pub dropped_end : (kept : List Bool) (dated : List Dated) (i : ℕ) (names : Lis
 dropped_end kept dated i names end count so_far =
     let none : dropped (drop i kept) (drop i dated) ≡ [] = ap (λ ks. dropped ks (drop i dated)) (drop_all i kept (omega (arith, end, count))) in
     sym (append-nil names) ∙ ap (λ ns. names ++ ns) (sym none) ∙ so_far
+
+pub ruleset left_steps = (left_more, left_same, standing_end)
+
+pub ruleset gone_steps = (gone_more, gone_same, dropped_end)
 
 -- of the first numbers those that aren't among the others
 pub record AreMissingTo (before after : List ℕ) (i : ℕ) (lost : List ℕ) : Type 0 where

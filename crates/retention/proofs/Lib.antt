@@ -12,4 +12,5 @@ mod StandingLemmas
 mod WalkLemmas
 mod DropLemmas
 mod StandardFacts
+mod OrderLemmas
 mod PruneLemmas

@@ -1,79 +1,31 @@
--- What the removal of dropped names leaves.
-use Rattle.std.proofs.Common.{◌≡◌, ◌≢◌, ℕ, ◌+◌, ◌<◌, ◌≤◌, inl, inr, zero, suc, Bool, true, false, cond, List, [], ◌∷◌, length, map, Option, Some, None, slice_get, refl, sym, ap, ◌∙◌, subst, arith}
-use Rattle.std.specs.Prelude.{IsSome, Result, Ok, Err, OnOk, OnErr}
+-- Whatever the removal of dropped names leaves, each protected transaction is retained in it.
+use Rattle.std.proofs.Common.{◌≡◌, ℕ, inl, inr, zero, suc, Bool, true, false, cond, List, [], ◌∷◌, length, Option, Some, slice_get, refl, sym, ap, ◌∙◌, subst}
+use Rattle.std.specs.Prelude.{IsSome}
 use Rattle.std.specs.FinMap.{get}
 use Rattle.std.specs.List.{Contains, IsDistinct, AllByRecursion}
 use Rattle.std.specs.Option.{option_map}
-use Rattle.std.proofs.lemmas.Bool.{cases_lt, false≢true}
-use Rattle.std.proofs.lemmas.Option.{slice_get-map, slice_get_within}
+use Rattle.std.proofs.lemmas.Bool.{false≢true}
+use Rattle.std.proofs.lemmas.Option.{slice_get-map}
 use Rattle.crash_disk.specs.declared.event.Event.{Event}
-use Rattle.crash_disk.specs.Files.{Files, files_after, file_at, is_name}
-use Rattle.crash_disk.specs.GoesOn.{IsGrown}
-use Rattle.crash_disk.specs.Images.{MayStandAt, IsCrashImage, WasCrashImageSince}
+use Rattle.crash_disk.specs.Files.{Files, is_name}
+use Rattle.crash_disk.specs.GoesOn.{GoesOn}
+use Rattle.crash_disk.specs.Told.{Told}
+use Rattle.crash_disk.proofs.GoesOnLemmas.{goes_on-weaker}
+use Rattle.crash_disk.specs.Images.{WasCrashImageSince}
 use Rattle.crash_disk.proofs.FileLaws.{at_name}
-use Rattle.crash_disk.proofs.Moments.{since_now}
-use Rattle.crash_disk.proofs.NumberLaws.{by_names}
 use Rattle.crash_disk.proofs.PutTheorem.{image_with}
 use Rattle.replica_store.specs.declared.dated_names.Dated.{Dated}
 use Rattle.replica_store.specs.declared.file_name.FileName.{FileName}
-use Rattle.replica_store.specs.Chain.{LeadsBy, names_of}
+use Rattle.replica_store.specs.Chain.{names_of}
 use Rattle.replica_store.specs.Dropping.{MayDropAll}
 use Rattle.replica_store.specs.Listing.{path_of, paths_of, IsIn}
-use Rattle.replica_store.specs.Putting.{IsAbsent, HasDropped, MayDrop, HasSyncedNames}
-use Rattle.replica_store.specs.Retained.{IsRetainedIn}
-use Rattle.replica_store.proofs.CrashLemmas.{since_split, grown_longer}
-use Rattle.replica_store.proofs.DropCarryLemmas.{none_dropped, one_more_dropped, no_new_image}
 use Rattle.retention.specs.Drops.{AreDrops}
-use Rattle.retention.specs.Pruning.{HasDroppedTo, HasPruned, LeavesAll, KeepsProtectedSince}
+use Rattle.retention.specs.Pruning.{IsDroppedInOrder, LeavesAll, KeepsProtectedSince}
 use Rattle.retention.specs.Walk.{standing, dropped}
 use Rattle.retention.proofs.LeadLemmas.{leads_larger}
-use Rattle.retention.proofs.ListLemmas.{contains_at, contained_at}
+use Rattle.retention.proofs.ListLemmas.{contained_at}
+use Rattle.retention.proofs.OrderLemmas.{path_there, told_among}
 use Rattle.retention.proofs.StandingLemmas.{from_standing, named_among}
-
-path_there : (names : List FileName) (i : ℕ) (name : FileName) → slice_get names i ≡ Some name → slice_get (paths_of names) i ≡ Some (path_of name)
-path_there names i name there = slice_get-map path_of names i ∙ ap (λ (o : Option FileName). option_map path_of o) there
-
-pub dropped_none : (names : List FileName) (events : List Event) → HasDroppedTo names 0 events events
-dropped_none names events = record { may = none_dropped (paths_of names) events; gone = λ k name low at. absurd (omega (arith, low)) }
-
-pub may_more : (names : List FileName) (i : ℕ) (name : FileName) (before mid now : List Event) → IsGrown mid now → slice_get names i ≡ Some name → MayDropAll (paths_of names) before mid → MayDrop (path_of name) mid now → MayDropAll (paths_of names) before now
-may_more names i name before mid now grown at all one = one_more_dropped (paths_of names) (path_of name) before mid now grown (contains_at (paths_of names) i (path_of name) (path_there names i name at)) all one
-
-pub dropped_more : (names : List FileName) (i : ℕ) (name : FileName) (before mid now : List Event) → IsGrown mid now → slice_get names i ≡ Some name → HasDroppedTo names i before mid → HasDropped (path_of name) mid now → HasDroppedTo names (i + 1) before now
-dropped_more names i name before mid now grown at was one = record {
-  may = may_more names i name before mid now grown at was.may one.may;
-  gone = λ k other below there. by_names (path_of other) (path_of name)
-      (λ same. ap (file_at now) same ∙ one.file)
-      (λ apart. elim (cases_lt k i) [
-        | inl early ↦ one.may.others (path_of other) apart ∙ was.gone k other early there
-        | inr late ↦ let e : k ≡ i = omega (arith, below, late) in let same : other ≡ name = (cc (ap (slice_get names) e)) in absurd (apart (ap path_of same))
-      ]);
-}
-
--- the names are brought to the disk
-pub synced_may : (paths : List (List ℕ)) (before mid now : List Event) → IsGrown mid now → MayDropAll paths before mid → HasSyncedNames mid now → MayDropAll paths before now
-synced_may paths before mid now grown all synced = record {
-  later = omega (arith, all.later, grown_longer mid now grown);
-  files = λ q. elim (all.files q) [ inl same ↦ inl (synced.files q ∙ same) | inr gone ↦ inr (gone.0, synced.files q ∙ gone.1) ];
-  at_a_stop = λ image was q. elim (since_split mid now (length before) image grown was) [
-    | inl after ↦ all.at_a_stop image (since_now mid (length before) image all.later (no_new_image mid now image synced after)) q
-    | inr earlier ↦ all.at_a_stop image earlier q
-  ];
-}
-
-pub pruned : (names : List FileName) (before mid now : List Event) → IsGrown mid now → HasDroppedTo names (length names) before mid → HasSyncedNames mid now → HasPruned names before now
-pruned names before mid now grown was synced = record {
-  gone = λ name there. let a = contained_at names name there in synced.files (path_of name) ∙ was.gone a.0 name (slice_get_within names a.0 name a.1) a.1;
-  others = synced_may (paths_of names) before mid now grown was.may synced;
-  synced = λ some. synced.names;
-}
-
-pub none_pruned : (names : List FileName) (before now : List Event) → length names ≡ 0 → HasDroppedTo names (length names) before now → HasPruned names before now
-none_pruned names before now none was = record {
-  gone = λ name there. absurd (omega (arith, none, there.1));
-  others = was.may;
-  synced = λ some. absurd (omega (arith, none, some));
-}
 
 -- ---- each path stands once
 
@@ -127,21 +79,20 @@ kept_in dated cut names lost drops before now may once leaves image was name the
           absurd (s.stands (ap (slice_get drops.kept) same ∙ g.gone))
     ]
 
-pub keeps_protected : (dated : List Dated) (cut : ℕ) (names : List FileName) (lost : List ℕ) → AreDrops dated cut names lost → (before now : List Event) → MayDropAll (paths_of names) before now → KeepsProtectedSince dated cut before now
+keeps_protected : (dated : List Dated) (cut : ℕ) (names : List FileName) (lost : List ℕ) → AreDrops dated cut names lost
+    → (before now : List Event) → MayDropAll (paths_of names) before now → KeepsProtectedSince dated cut before now
 keeps_protected dated cut names lost drops before now may once leaves image was t is =
     let kept = drops.protected t is in
+    let Kept = Contains (standing drops.kept dated) in
+    let there = kept_in dated cut names lost drops before now may once leaves image was in
     record {
       positive = kept.positive;
       chain = kept.chain;
-      leads = leads_larger (Contains (standing drops.kept dated)) (IsIn image) (kept_in dated cut names lost drops before now may once leaves image was) 0 kept.chain t kept.leads;
+      leads = leads_larger Kept (IsIn image) there 0 kept.chain t kept.leads;
     }
 
--- ---- by the answer of a call
-
-pub either_way : {T E : Type 0} (r : Result T E) (A B C : Type 0) → OnOk r A → OnErr r B → (A → C) → (B → C) → C
-either_way (Ok x) A B C a b f h = f a
-either_way (Err e) A B C a b f h = h b
-
-pub on_ok : {T E : Type 0} (r : Result T E) (A C : Type 0) → OnOk r A → (A → C) → OnOk r C
-on_ok (Ok x) A C a f = f a
-on_ok (Err e) A C a f = tt
+pub told_protected : (t u : Told) (dated : List Dated) (cut : ℕ) (names : List FileName) (lost : List ℕ)
+    → AreDrops dated cut names lost → GoesOn t u (IsDroppedInOrder names) → GoesOn t u (KeepsProtectedSince dated cut)
+told_protected t u dated cut names lost drops order =
+    goes_on-weaker t u (MayDropAll (paths_of names)) (KeepsProtectedSince dated cut) (told_among t u names order)
+    (λ x y may. keeps_protected dated cut names lost drops x y may)

@@ -1,5 +1,5 @@
 -- What the removal of dropped names does to the disk. This project's rule.
-use Rattle.std.specs.Prelude.{◌≡◌, ℕ, ◌<◌, List, length, Some, slice_get}
+use Rattle.std.specs.Prelude.{ℕ, ◌+◌, ◌<◌, List, length, take}
 use Rattle.std.specs.List.{Contains, IsDistinct}
 use Rattle.crash_disk.specs.declared.event.Event.{Event}
 use Rattle.crash_disk.specs.Files.{Files, is_name}
@@ -13,10 +13,17 @@ use Rattle.replica_store.specs.Putting.{IsAbsent, LeavesTheNames}
 use Rattle.replica_store.specs.Retained.{IsRetainedIn}
 use Rattle.retention.specs.Protected.{IsProtected}
 
--- the files of the first names are gone
-pub record HasDroppedTo (names : List FileName) (i : ℕ) (before now : List Event) : Type 0 where
-  pub may : MayDropAll (paths_of names) before now
-  pub gone : (k : ℕ) (name : FileName) → k < i → slice_get names k ≡ Some name → IsAbsent now (path_of name)
+-- The files of so many of the first names are gone. All else is as it was, and so is what a crash leaves of it.
+pub record HasDroppedTo (names : List FileName) (count : ℕ) (before now : List Event) : Type 0 where
+  pub gone : (path : List ℕ) → Contains (take count (paths_of names)) path → IsAbsent now path
+  pub others : MayDropAll (take count (paths_of names)) before now
+
+-- The files of some first names are gone, and besides these at most that of the next name may be gone. All else is as
+-- it was, and so is what a crash leaves of it.
+pub record IsDroppedInOrder (names : List FileName) (before now : List Event) : Type 0 where
+  pub count : ℕ
+  pub gone : (path : List ℕ) → Contains (take count (paths_of names)) path → IsAbsent now path
+  pub behind : MayDropAll (take (count + 1) (paths_of names)) before now
 
 -- The files of the names are gone, and the others as they were. Where there are any, a crash leaves exactly the names
 -- that are there.

@@ -47,6 +47,7 @@ pub fn decide(alloc: Global, dated: &[Dated], cut: u64, ts: &[Txid]) -> Result<V
 }
 
 /// The names that are kept.
+#[tactic(auto, using(crate::proofs::DropLemmas::left_steps))]
 pub fn left(alloc: Global, dated: &[Dated], kept: &[bool]) -> Result<Vec<FileName>, Memory>
     requires { length kept.now ≡ length dated.now }
     ensures { IfOk result (λ names. names.items ≡ standing kept.now dated.now) }
@@ -62,6 +63,7 @@ pub fn left(alloc: Global, dated: &[Dated], kept: &[bool]) -> Result<Vec<FileNam
 }
 
 /// The names that aren't kept.
+#[tactic(auto, using(crate::proofs::DropLemmas::gone_steps))]
 pub fn gone(alloc: Global, dated: &[Dated], kept: &[bool]) -> Result<Vec<FileName>, Memory>
     requires { length kept.now ≡ length dated.now }
     ensures { IfOk result (λ names. names.items ≡ dropped kept.now dated.now) }

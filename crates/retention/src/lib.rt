@@ -9,8 +9,8 @@
 //! leads over it and not past the next protected transaction. So an old name stays where a stretch falls to it that
 //! no kept one before it spans: the last that spans the stretch, where no young one does.
 //!
-//! `prune` removes the names, and brings the names that are left to the disk. Whatever a crash leaves meanwhile, each
-//! protected transaction is retained in it.
+//! `prune` removes the names in their order, and brings the names that are left to the disk. After a fault the first
+//! ones of them are gone. Whatever a crash leaves meanwhile, each protected transaction is retained in it.
 //!
 //! Stands on `ls_base`, `crash_disk` and `replica_store`, whose `specs/Chain.antt` says what a chain is. What takes
 //! memory answers `Memory` for want of it.
@@ -22,6 +22,8 @@ mod dropping;
 mod kept;
 mod outcome;
 mod painting;
+#[cfg(test)]
+mod prune_tests;
 mod pruning;
 mod retained;
 mod stretch;

@@ -1,36 +1,24 @@
-use Rattle.std.proofs.Common.{◌≡◌, ◌+◌, ◌<◌, Some, length, slice_get, ◌∙◌, arith}
-use Rattle.crash_disk.proofs.GoesOnLemmas.{goes_on-then_grown}
-use Rattle.replica_store.specs.Dropping.{MayDropAll}
-use Rattle.replica_store.specs.Listing.{path_of, paths_of}
-use Rattle.replica_store.specs.Putting.{HasDropped, MayDrop}
-use Rattle.retention.specs.Pruning.{HasDroppedTo}
-use Rattle.retention.proofs.ListLemmas.{at_index}
-use Rattle.retention.proofs.PruneLemmas.{dropped_more, may_more}
+use Rattle.std.proofs.Common.{arith, ◌∙◌}
+use Rattle.retention.proofs.OrderLemmas.{told_or_not, told_more, told_synced, told_in_order}
 use Rattle.retention.proofs.pruning.drop_files.Goals as goal
 
-pub returns-in_err-drop_file-clause-files : goal.returns-in_err-drop_file-clause-files
-returns-in_err-drop_file-clause-files g c =
-    let names = c.args.names.now in
-    let i = c.loop-name.name-index in
-    let name = c.name-item.result in
-    let low : i < length names = c.loop-name-test.true in
-    let at : slice_get names i ≡ Some name = at_index names i name low c.name-item.is in
-    goes_on-then_grown (g.S.Disk.told c.args.store.now) (g.S.Disk.told c.loop-name.store) (g.S.Disk.told c.drop_file.new.store) (HasDroppedTo names i) (MayDrop (path_of name)) (MayDropAll (paths_of names))
-    c.loop-name.invariant.dropped c.in_err-drop_file.ensures.err (λ x y z before after was one. may_more names i name x y z after at was.may one)
+pub returns-in_err-drop_file-clause-order : goal.returns-in_err-drop_file-clause-order
+returns-in_err-drop_file-clause-order g c =
+    grind (arith, told_or_not, c.loop-i.invariant.dropped, c.in_err-drop_file.ensures.err)
 
-pub loop-name-preserved : goal.loop-name-preserved
-loop-name-preserved g c =
-    let names = c.args.names.now in
-    let i = c.loop-name.name-index in
-    let name = c.name-item.result in
-    let low : i < length names = c.loop-name-test.true in
-    let at : slice_get names i ≡ Some name = at_index names i name low c.name-item.is in
-    record {
-      dropped = goes_on-then_grown (g.S.Disk.told c.args.store.now) (g.S.Disk.told c.loop-name.store) (g.S.Disk.told c.drop_file.new.store) (HasDroppedTo names i) (HasDropped (path_of name)) (HasDroppedTo names (i + 1))
-          c.loop-name.invariant.dropped c.in_ok-drop_file.ensures.ok (λ x y z before after was one. dropped_more names i name x y z after at was one);
-      keeps = record {
-        folder = c.in_ok-drop_file.ensures.keeps.folder ∙ c.loop-name.invariant.keeps.folder;
-        given = c.in_ok-drop_file.ensures.keeps.given ∙ c.loop-name.invariant.keeps.given;
-      };
-      later = omega (arith, c.in_ok-drop_file.ensures.cause.later, c.loop-name.invariant.later);
-    }
+pub loop-i-preserved : goal.loop-i-preserved
+loop-i-preserved g c = record {
+  dropped = grind (arith, told_more, c.loop-i.invariant.dropped, c.in_ok-drop_file.ensures.ok);
+  keeps = record {
+    folder = c.in_ok-drop_file.ensures.keeps.folder ∙ c.loop-i.invariant.keeps.folder;
+    given = c.in_ok-drop_file.ensures.keeps.given ∙ c.loop-i.invariant.keeps.given;
+  };
+  later = omega (arith, c.in_ok-drop_file.ensures.cause.later, c.loop-i.invariant.later);
+}
+
+pub returns-clause-ok : goal.returns-clause-ok
+returns-clause-ok g c = grind (arith, told_synced, c.loop-i.invariant.dropped, c.settle.ensures.ok)
+
+pub returns-clause-order : goal.returns-clause-order
+returns-clause-order g c =
+    grind (arith, told_in_order, c.loop-i.invariant.dropped, c.settle.ensures.ok, c.settle.ensures.err)
