@@ -8,7 +8,8 @@ use Rattle.checkpointer.specs.Fault.{BackfillHasCause}
 pub rose_after : (before mid now : ℕ) → before ≤ mid → Rose mid now → Rose before now
 rose_after before mid now later rose = record { least = omega (arith, later, rose.least) }
 
-pub cause_after : {T : Type 0} (before mid now : ℕ) (result : Result T BackfillFault) → before ≤ mid → BackfillHasCause mid now result → BackfillHasCause before now result
+pub cause_after : {T : Type 0} (before mid now : ℕ) (result : Result T BackfillFault) → before ≤ mid
+    → BackfillHasCause mid now result → BackfillHasCause before now result
 cause_after before mid now result earlier cause = record {
   later = omega (arith, earlier, cause.later);
   rose = λ fault is. rose_after before mid now earlier (cause.rose fault is);

@@ -1,8 +1,10 @@
 -- What a crash may leave of a file of which some places are written and others are kept.
-use Rattle.std.proofs.Common.{◌≡◌, ◌∙◌, ℕ, ◌+◌, ◌-◌, ◌<◌, ◌≤◌, ◌⊎◌, min, List, [], ◌∷◌, ◌++◌, length, take, drop, map, replicate, get_or, sym, ap, subst, refl, inl, inr, arith, length-append, length-drop}
+use Rattle.std.proofs.Common.{◌≡◌, ◌∙◌, ℕ, ◌+◌, ◌-◌, ◌<◌, ◌≤◌, ◌⊎◌, min, List, [], ◌∷◌, ◌++◌, length, take, drop, map}
+use Rattle.std.proofs.Common.{replicate, get_or, sym, ap, subst, refl, inl, inr, arith, length-append, length-drop}
 use Rattle.std.specs.List.{range_with_len}
 use Rattle.std.proofs.lemmas.Bool.{cases_lt}
-use Rattle.std.proofs.lemmas.List.{get_or_append_left, get_or-append_right, get_or-take, get_or-drop, get_or_past, get_or-replicate, length-take, length-replicate}
+use Rattle.std.proofs.lemmas.List.{get_or_append_left, get_or-append_right, get_or-take, get_or-drop, get_or_past}
+use Rattle.std.proofs.lemmas.List.{get_or-replicate, length-take, length-replicate, take_all}
 use Rattle.std.proofs.lemmas.List.FromFn.{length-map-range_with_len, get_or-map-range_with_len}
 use Rattle.crash_disk.specs.Files.{with_bytes_at, with_length}
 use Rattle.crash_disk.specs.FileState.{FileState, Range, IsInside, SomeOf, written, resized, IsFileImage}
@@ -40,7 +42,8 @@ module _ (at : ℕ) (bytes old : List ℕ) where
   length-head = omega (arith, length-append (take at longer) bytes, length-front)
 
   -- a write leaves what is outside of it
-  pub get-written : (place : ℕ) → (place < at) ⊎ (at + length bytes ≤ place) → get_or (with_bytes_at at bytes old) place 0 ≡ get_or old place 0
+  pub get-written : (place : ℕ) → (place < at) ⊎ (at + length bytes ≤ place)
+      → get_or (with_bytes_at at bytes old) place 0 ≡ get_or old place 0
   unfolding longer
   get-written place (inl below) =
       get_or_append_left (take at longer ++ bytes) (drop (at + length bytes) old) 0 place (omega (arith, below, length-head))
@@ -50,12 +53,25 @@ module _ (at : ℕ) (bytes old : List ℕ) where
       get_or-append_right (take at longer ++ bytes) (drop (at + length bytes) old) (at + length bytes) place 0 length-head past
       ∙ get_or-drop (at + length bytes) old (place - (at + length bytes)) 0 ∙ ap (λ (k : ℕ). get_or old k 0) (omega (arith, past))
 
+  -- and puts its bytes inside of it
+  pub get-written_here : (k : ℕ) → k < length bytes → get_or (with_bytes_at at bytes old) (at + k) 0 ≡ get_or bytes k 0
+  unfolding longer
+  get-written_here k below =
+      get_or_append_left (take at longer ++ bytes) (drop (at + length bytes) old) 0 (at + k) (omega (arith, below, length-head))
+      ∙ get_or-append_right (take at longer) bytes at (at + k) 0 length-front (omega arith) ∙ ap (λ (j : ℕ). get_or bytes j 0) (omega arith)
+
   pub length-written : length (with_bytes_at at bytes old) ≡ at + length bytes + (length old - (at + length bytes))
   unfolding longer
   length-written = omega (arith, length-append (take at longer ++ bytes) (drop (at + length bytes) old), length-head, length-drop (at + length bytes) old)
 
-pub get-resized : (size : ℕ) (old : List ℕ) (place : ℕ) → place < size → get_or (with_length size old) place 0 ≡ get_or old place 0
+pub get-resized : (size : ℕ) (old : List ℕ) (place : ℕ) → place < size
+    → get_or (with_length size old) place 0 ≡ get_or old place 0
 get-resized size old place within = get-padded (take size old) (size - length old) place ∙ get_or-take size old place 0 within
+
+-- a file that grows changes no place
+pub get-grown : (size : ℕ) (old : List ℕ) (place : ℕ) → length old ≤ size
+    → get_or (with_length size old) place 0 ≡ get_or old place 0
+get-grown size old place short = get-padded (take size old) (size - length old) place ∙ ap (λ (xs : List ℕ). get_or xs place 0) (take_all size old short)
 
 pub length-resized : (size : ℕ) (old : List ℕ) → length (with_length size old) ≡ size
 length-resized size old = omega (arith, length-append (take size old) (replicate (size - length old) 0), length-take size old, length-replicate {A = ℕ} (size - length old) 0)
@@ -70,11 +86,13 @@ pub record ChangedApart (Kept : ℕ → Type 0) (old new : FileState) : Type 0 w
   pub long : (place : ℕ) → Kept place → place < length new.bytes
 
 -- a place is in one of the ranges or in none
-not_before : (place : ℕ) (range : Range) (ranges : List Range) → place < range.start → (SomeOf (IsInside place) ranges → ⊥) → SomeOf (IsInside place) (range ∷ ranges) → ⊥
+not_before : (place : ℕ) (range : Range) (ranges : List Range) → place < range.start
+    → (SomeOf (IsInside place) ranges → ⊥) → SomeOf (IsInside place) (range ∷ ranges) → ⊥
 not_before place range ranges before none (inl inside) = omega (arith, before, inside.0)
 not_before place range ranges before none (inr some) = none some
 
-not_past : (place : ℕ) (range : Range) (ranges : List Range) → range.end ≤ place → (SomeOf (IsInside place) ranges → ⊥) → SomeOf (IsInside place) (range ∷ ranges) → ⊥
+not_past : (place : ℕ) (range : Range) (ranges : List Range) → range.end ≤ place → (SomeOf (IsInside place) ranges → ⊥)
+    → SomeOf (IsInside place) (range ∷ ranges) → ⊥
 not_past place range ranges past none (inl inside) = omega (arith, past, inside.1)
 not_past place range ranges past none (inr some) = none some
 
@@ -97,13 +115,15 @@ module _ (Inside : Type 0) (place count byte other : ℕ) where
   pick (inr free) (inl below) = byte
   pick (inr free) (inr past) = other
 
-  pick_synced : (d : Inside ⊎ (Inside → ⊥)) (e : (place < count) ⊎ (count ≤ place)) → (Inside → ⊥) → place < count → pick d e ≡ byte
+  pick_synced : (d : Inside ⊎ (Inside → ⊥)) (e : (place < count) ⊎ (count ≤ place)) → (Inside → ⊥) → place < count
+      → pick d e ≡ byte
   unfolding pick
   pick_synced (inl inside) e free below = absurd (free inside)
   pick_synced (inr not) (inl here) free below = refl
   pick_synced (inr not) (inr past) free below = absurd (omega (arith, past, below))
 
-  pick_agrees : (d : Inside ⊎ (Inside → ⊥)) (e : (place < count) ⊎ (count ≤ place)) → ((Inside → ⊥) → place < count → byte ≡ other) → pick d e ≡ other
+  pick_agrees : (d : Inside ⊎ (Inside → ⊥)) (e : (place < count) ⊎ (count ≤ place))
+      → ((Inside → ⊥) → place < count → byte ≡ other) → pick d e ≡ other
   unfolding pick
   pick_agrees (inl inside) e same = refl
   pick_agrees (inr free) (inl below) same = same free below
@@ -119,7 +139,8 @@ module _ (Kept : ℕ → Type 0) (old new : FileState) (c : ChangedApart Kept ol
   within : (place : ℕ) → Kept place → place < length bytes
   within place kept = c.lengths (length bytes) image.had_length place kept
 
-  synced_byte : (place : ℕ) → Kept place → (SomeOf (IsInside place) old.ranges → ⊥) → place < length old.synced → get_or old.synced place 0 ≡ get_or bytes place 0
+  synced_byte : (place : ℕ) → Kept place → (SomeOf (IsInside place) old.ranges → ⊥) → place < length old.synced
+      → get_or old.synced place 0 ≡ get_or bytes place 0
   synced_byte place kept free below =
       let count : length new.synced ≡ length old.synced = ap (λ (xs : List ℕ). length xs) c.synced in
       sym (image.kept place (within place kept) (omega (arith, below, count)) (λ inside. free (c.ranges place kept inside)) ∙ ap (λ (xs : List ℕ). get_or xs place 0) c.synced)
@@ -137,7 +158,8 @@ module _ (Kept : ℕ → Type 0) (old new : FileState) (c : ChangedApart Kept ol
   length-was : length was ≡ length old.bytes
   length-was = length-map-range_with_len byte_at 0 (length old.bytes)
 
-  pub like_before : SomeOf (λ size. length old.bytes ≡ size) old.lengths → ((place : ℕ) → Kept place → place < length old.bytes) → IsLikeBefore Kept old bytes
+  pub like_before : SomeOf (λ size. length old.bytes ≡ size) old.lengths
+      → ((place : ℕ) → Kept place → place < length old.bytes) → IsLikeBefore Kept old bytes
   unfolding byte_at
   like_before had long = record {
     before = was;
@@ -155,18 +177,24 @@ module _ (Kept : ℕ → Type 0) (old new : FileState) (c : ChangedApart Kept ol
 -- ---- steps
 
 module _ (Kept : ℕ → Type 0) (old : FileState) where
-  pub apart_same : ((n : ℕ) → SomeOf (λ size. n ≡ size) old.lengths → (place : ℕ) → Kept place → place < n) → ((place : ℕ) → Kept place → place < length old.bytes) → ChangedApart Kept old old
+  pub apart_same : ((n : ℕ) → SomeOf (λ size. n ≡ size) old.lengths → (place : ℕ) → Kept place → place < n)
+      → ((place : ℕ) → Kept place → place < length old.bytes) → ChangedApart Kept old old
   apart_same lengths long = record { synced = refl; ranges = λ place kept inside. inside; lengths = lengths; long = long }
 
-  new_range : (new : FileState) (range : Range) (place : ℕ) → (IsInside place range → ⊥) → (SomeOf (IsInside place) new.ranges → SomeOf (IsInside place) old.ranges) → SomeOf (IsInside place) (range ∷ new.ranges) → SomeOf (IsInside place) old.ranges
+  new_range : (new : FileState) (range : Range) (place : ℕ) → (IsInside place range → ⊥)
+      → (SomeOf (IsInside place) new.ranges → SomeOf (IsInside place) old.ranges)
+      → SomeOf (IsInside place) (range ∷ new.ranges) → SomeOf (IsInside place) old.ranges
   new_range new range place free older (inl inside) = absurd (free inside)
   new_range new range place free older (inr some) = older some
 
-  new_length : (lengths : List ℕ) (size n place : ℕ) → place < size → (SomeOf (λ size. n ≡ size) lengths → place < n) → SomeOf (λ size. n ≡ size) (size ∷ lengths) → place < n
+  new_length : (lengths : List ℕ) (size n place : ℕ) → place < size → (SomeOf (λ size. n ≡ size) lengths → place < n)
+      → SomeOf (λ size. n ≡ size) (size ∷ lengths) → place < n
   new_length lengths size n place below older (inl is) = omega (arith, below, is)
   new_length lengths size n place below older (inr some) = older some
 
-  pub apart_written : (new : FileState) (at : ℕ) (bytes : List ℕ) → ChangedApart Kept old new → ((place : ℕ) → Kept place → (place < at) ⊎ (at + length bytes ≤ place)) → ChangedApart Kept old (written at bytes new)
+  pub apart_written : (new : FileState) (at : ℕ) (bytes : List ℕ) → ChangedApart Kept old new
+      → ((place : ℕ) → Kept place → (place < at) ⊎ (at + length bytes ≤ place))
+      → ChangedApart Kept old (written at bytes new)
   apart_written new at bytes c free =
       let size = length-written at bytes new.bytes in
       let long : (place : ℕ) → Kept place → place < length (with_bytes_at at bytes new.bytes) = λ place kept. let within = c.long place kept in omega (arith, within, size) in
@@ -179,7 +207,8 @@ module _ (Kept : ℕ → Type 0) (old : FileState) where
         long = long;
       }
 
-  pub apart_resized : (new : FileState) (size : ℕ) → ChangedApart Kept old new → ((place : ℕ) → Kept place → place < size) → ChangedApart Kept old (resized size new)
+  pub apart_resized : (new : FileState) (size : ℕ) → ChangedApart Kept old new
+      → ((place : ℕ) → Kept place → place < size) → ChangedApart Kept old (resized size new)
   apart_resized new size c free =
       let is = length-resized size new.bytes in
       let long : (place : ℕ) → Kept place → place < length (with_length size new.bytes) = λ place kept. let below = free place kept in omega (arith, below, is) in

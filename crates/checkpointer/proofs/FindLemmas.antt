@@ -1,5 +1,6 @@
 -- Where a log begins, and what it has up to an offset.
-use Rattle.std.proofs.Common.{◌≡◌, ◌∙◌, ℕ, ◌-◌, ◌<◌, ◌≤◌, min, Bool, true, false, not, List, [], ◌++◌, length, take, drop, Option, Some, None, Ok, Err, sym, ap, subst, refl, arith, append-nil}
+use Rattle.std.proofs.Common.{◌≡◌, ◌∙◌, ℕ, ◌-◌, ◌<◌, ◌≤◌, min, Bool, true, false, not, List, [], ◌++◌, length, take}
+use Rattle.std.proofs.Common.{drop, Option, Some, None, Ok, Err, sym, ap, subst, refl, arith, append-nil}
 use Rattle.std.specs.Option.{is_some}
 use Rattle.std.specs.List.{Contains}
 use Rattle.std.proofs.lemmas.List.{drop_all, length-take, take-append-drop}
@@ -22,7 +23,8 @@ short_has_none log mark short is_mark =
     omega (arith, long, short)
 
 -- nor has one whose header is refused
-pub refused_has_none : (log : List ℕ) (fault : WalHeaderFault) (mark : Mark) → 32 ≤ length log → read_header (take 32 log) ≡ Err fault → IsMark log mark → ⊥
+pub refused_has_none : (log : List ℕ) (fault : WalHeaderFault) (mark : Mark) → 32 ≤ length log
+    → read_header (take 32 log) ≡ Err fault → IsMark log mark → ⊥
 refused_has_none log fault mark long refused is_mark =
     let accepted = accepted_by_mark log mark is_mark in
     let front : read_header log ≡ read_header (take 32 log) =
@@ -31,7 +33,8 @@ refused_has_none log fault mark long refused is_mark =
     absurd cc
 
 -- the front that was read is that of the log
-pub front_is : (log old new : List ℕ) (n : ℕ) → length old ≡ 32 → n ≡ min (length old) (length log - 0) → new ≡ take n (drop 0 log) ++ drop n old → 32 ≤ n → (32 ≤ length log) × (new ≡ take 32 log)
+pub front_is : (log old new : List ℕ) (n : ℕ) → length old ≡ 32 → n ≡ min (length old) (length log - 0)
+    → new ≡ take n (drop 0 log) ++ drop n old → 32 ≤ n → (32 ≤ length log) × (new ≡ take 32 log)
 front_is log old new n len count is enough =
     let all : n ≡ 32 = omega (arith, len, count, enough) in
     let none : drop n old ≡ [] = drop_all n old (omega (arith, len, all)) in
@@ -46,7 +49,8 @@ ends_long log mark is_mark =
 
 -- the mark is the last one exactly where none is behind it
 module _ (log : List ℕ) (mark : Mark) (from : ℕ) (scan : Scanned) (is_mark : IsMark log mark) (end : mark.end ≡ from) (within : from ≤ length log) (taken : HasTaken scan (take from log)) where
-  pub last_by : (newer : Option Mark) (none : Bool) → is_some newer ≡ not none → IsNewer log from scan newer → (none ≡ true → last_mark_of log ≡ Some mark) × (last_mark_of log ≡ Some mark → none ≡ true)
+  pub last_by : (newer : Option Mark) (none : Bool) → is_some newer ≡ not none → IsNewer log from scan newer
+      → (none ≡ true → last_mark_of log ≡ Some mark) × (last_mark_of log ≡ Some mark → none ≡ true)
   last_by None true e is = (λ same. is_last log mark is_mark (last_mark_of log) refl (λ last found. let upto = is within taken last found in omega (arith, upto, end)), λ found. refl)
   last_by None false e is = absurd cc
   last_by (Some newer) true e is = absurd cc

@@ -1,5 +1,7 @@
 -- One frame more, and where its page stands.
-use Rattle.std.proofs.Common.{◌≡◌, ◌∙◌, ℕ, ◌+◌, ◌-◌, ◌≤◌, Bool, true, false, cond, eqb, ltb, is_eq, Less, Equal, Greater, List, [], ◌∷◌, ◌++◌, length, take, drop, Option, Some, None, sym, ap, subst, refl, inl, inr, arith, length-append}
+use Rattle.std.proofs.Common.{◌≡◌, ◌∙◌, ℕ, ◌+◌, ◌-◌, ◌≤◌, Bool, true, false, cond, eqb, ltb, is_eq, Less, Equal}
+use Rattle.std.proofs.Common.{Greater, List, [], ◌∷◌, ◌++◌, length, take, drop, Option, Some, None, sym, ap, subst}
+use Rattle.std.proofs.Common.{refl, inl, inr, arith, length-append}
 use Rattle.std.specs.Option.{option_or}
 use Rattle.std.specs.Ordering.{nat_cmp}
 use Rattle.std.specs.BTreeMap.{BTreeMap, get, Updates, is_at}
@@ -19,7 +21,8 @@ use Rattle.wal_frames.proofs.LogLemmas.{frame_stands}
 use Rattle.checkpointer.specs.Gathering.{StandsFrom, HasGathered}
 
 -- the page of the last frame counts
-or_last : (last : Bool) (page : List ℕ) (older : Option (List ℕ)) (first : Option (List ℕ)) → option_or (cond last (Some page) older) first ≡ cond last (Some page) (option_or older first)
+or_last : (last : Bool) (page : List ℕ) (older : Option (List ℕ)) (first : Option (List ℕ))
+    → option_or (cond last (Some page) older) first ≡ cond last (Some page) (option_or older first)
 or_last true page older first = refl
 or_last false page older first = refl
 
@@ -27,7 +30,8 @@ or_none : (last : Bool) (page : List ℕ) → option_or None (cond last (Some pa
 or_none true page = refl
 or_none false page = refl
 
-pub frames_page-push : (p : ℕ) (frames : List (List ℕ)) (frame : List ℕ) → frames_page p (frames ++ frame ∷ []) ≡ cond (eqb (page_number frame) p) (Some (frame_page frame)) (frames_page p frames)
+pub frames_page-push : (p : ℕ) (frames : List (List ℕ)) (frame : List ℕ)
+    → frames_page p (frames ++ frame ∷ []) ≡ cond (eqb (page_number frame) p) (Some (frame_page frame)) (frames_page p frames)
 frames_page-push p [] frame = or_none (eqb (page_number frame) p) (frame_page frame)
 frames_page-push p (first ∷ frames) frame =
     let one = cond (eqb (page_number first) p) (Some (frame_page first)) None in
@@ -39,7 +43,8 @@ not_at false false e = refl
 not_at false true e = absurd cc
 
 -- what stands in a log stands in each longer one
-pub stands_more : (size : ℕ) (log x : List ℕ) (at : Option ℕ) (page : Option (List ℕ)) → StandsFrom size log at page → StandsFrom size (log ++ x) at page
+pub stands_more : (size : ℕ) (log x : List ℕ) (at : Option ℕ) (page : Option (List ℕ)) → StandsFrom size log at page
+    → StandsFrom size (log ++ x) at page
 stands_more size log x None None stands = tt
 stands_more size log x None (Some page) stands = stands
 stands_more size log x (Some at) None stands = stands
@@ -50,7 +55,8 @@ stands_more size log x (Some at) (Some page) stands =
     (omega (arith, within, length-append log x), stands.1 ∙ sym front ∙ ap (λ (xs : List ℕ). take size xs) (sym here))
 
 module _ (log x : List ℕ) (old new : Scanned) (head : new.head ≡ old.head) where
-  pub gather_none : (pages : BTreeMap ℕ ℕ) → HasGathered log old pages → HasTaken new (log ++ x) → valid_frames (log ++ x) ≡ valid_frames log → HasGathered (log ++ x) new pages
+  pub gather_none : (pages : BTreeMap ℕ ℕ) → HasGathered log old pages → HasTaken new (log ++ x)
+      → valid_frames (log ++ x) ≡ valid_frames log → HasGathered (log ++ x) new pages
   gather_none pages g taken same = record {
     taken = taken;
     offsets = λ p.
@@ -77,7 +83,9 @@ module _ (log x : List ℕ) (old new : Scanned) (head : new.head ≡ old.head) w
         ap (drop 24) stands.bytes ∙ drop-take 24 new.head.size (drop at (log ++ x)) ∙ ap (λ (xs : List ℕ). take new.head.size xs) (drop-drop 24 at (log ++ x)) in
         (omega (arith, from, within), page ∙ ap (λ (n : ℕ). take new.head.size (drop n (log ++ x))) (sym from))
 
-    pub gather_more : (pages more : BTreeMap ℕ ℕ) (offset : ℕ) → HasGathered log old pages → Updates nat_cmp pages more number (Some offset) → offset ≡ end - new.head.size → HasGathered (log ++ x) new more
+    pub gather_more : (pages more : BTreeMap ℕ ℕ) (offset : ℕ) → HasGathered log old pages
+        → Updates nat_cmp pages more number (Some offset) → offset ≡ end - new.head.size
+        → HasGathered (log ++ x) new more
     gather_more pages more offset g updates is = record {
       taken = taken;
       offsets = λ p.
@@ -104,7 +112,8 @@ no_frames : (h : WalHeader) (log : List ℕ) → length log ≡ 32 → whole_fra
 unfolding whole_frames
 no_frames h log len = rw (quotient (length log - 32) (frame_length h) 0 0 (omega (arith, len)) (omega arith)) refl
 
-pub gather_begins : (log : List ℕ) (scan : Scanned) (pages : BTreeMap ℕ ℕ) → length log ≡ 32 → HasTaken scan log → pages.entries ≡ [] → HasGathered log scan pages
+pub gather_begins : (log : List ℕ) (scan : Scanned) (pages : BTreeMap ℕ ℕ) → length log ≡ 32 → HasTaken scan log
+    → pages.entries ≡ [] → HasGathered log scan pages
 gather_begins log scan pages len taken empty =
     let none : valid_frames log ≡ [] = valid_is log scan.head taken.accepted ∙ ap (valid_behind (take 24 log) scan.head []) (no_frames scan.head log len) in
     record {

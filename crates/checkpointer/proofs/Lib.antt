@@ -9,3 +9,15 @@ pub mod GatherLemmas
 pub mod FindLemmas
 pub mod CauseLemmas
 pub mod CopyLemmas
+pub mod WritesLemmas
+pub mod PagesLemmas
+pub mod FoundLemmas
+pub mod WholeLemmas
+pub mod KeepLemmas
+pub mod FoundPages
+pub mod BackfillLemmas
+pub mod RestView
+pub mod EndLemmas
+pub mod ExitLemmas
+pub mod NextLemmas
+pub mod PlacedLemmas

@@ -1,5 +1,6 @@
 -- Two files of a disk by their numbers, while their bytes change.
-use Rattle.std.proofs.Common.{◌≡◌, ◌≢◌, ◌∙◌, ℕ, true, false, eqb, List, [], ◌∷◌, Option, Some, None, unwrap_or, IsSome, sym, ap, subst, refl, inl, inr}
+use Rattle.std.proofs.Common.{◌≡◌, ◌≢◌, ◌∙◌, ℕ, true, false, eqb, List, [], ◌∷◌, Option, Some, None, unwrap_or}
+use Rattle.std.proofs.Common.{IsSome, sym, ap, subst, refl, inl, inr}
 use Rattle.std.specs.FinMap.{get}
 use Rattle.std.proofs.lemmas.Bool.{eq-eqb, ne_eqb}
 use Rattle.crash_disk.specs.declared.event.Event.{Event}
@@ -23,10 +24,12 @@ pub record IsFile (events : List Event) (name : List ℕ) (n : ℕ) (file : File
   pub named : numbers_at events name ≡ Some n ∷ []
   pub is : file_of events n ≡ file
 
-pub reads : (events : List Event) (name : List ℕ) (n : ℕ) (file : FileState) → IsFile events name n file → file_at events name ≡ Some file.bytes
+pub reads : (events : List Event) (name : List ℕ) (n : ℕ) (file : FileState) → IsFile events name n file
+    → file_at events name ≡ Some file.bytes
 reads events name n file f = file_at-numbered events name ∙ ap (bytes_by (file_of events)) f.number ∙ ap (λ (x : FileState). Some x.bytes) f.is
 
-pub itself : (events : List Event) (name : List ℕ) (n : ℕ) (file : FileState) → IsFile events name n file → IsFileImage file file.bytes
+pub itself : (events : List Event) (name : List ℕ) (n : ℕ) (file : FileState) → IsFile events name n file
+    → IsFileImage file file.bytes
 itself events name n file f = subst (λ (x : FileState). IsFileImage x x.bytes) f.is (reads_as_image events n)
 
 -- what a crash leaves at the name is an image of the file
@@ -35,17 +38,20 @@ pub record LeavesImage (file : FileState) (left : Option (List ℕ)) : Type 0 wh
   pub there : left ≡ Some bytes
   pub image : IsFileImage file bytes
 
-image_of : (events : List Event) (n : ℕ) (file : FileState) (left : Option (List ℕ)) → file_of events n ≡ file → SomeOf (λ number. IsImageOf events number left) (Some n ∷ []) → LeavesImage file left
+image_of : (events : List Event) (n : ℕ) (file : FileState) (left : Option (List ℕ)) → file_of events n ≡ file
+    → SomeOf (λ number. IsImageOf events number left) (Some n ∷ []) → LeavesImage file left
 image_of events n file None e (inl is) = absurd is
 image_of events n file None e (inr none) = absurd none
 image_of events n file (Some bytes) e (inl is) = record { bytes = bytes; there = refl; image = subst (λ (x : FileState). IsFileImage x bytes) e is }
 image_of events n file (Some bytes) e (inr none) = absurd none
 
-pub leaves_image : (events : List Event) (name : List ℕ) (n : ℕ) (file : FileState) (image : Files) → IsFile events name n file → IsCrashImage events image → LeavesImage file (get image name)
+pub leaves_image : (events : List Event) (name : List ℕ) (n : ℕ) (file : FileState) (image : Files)
+    → IsFile events name n file → IsCrashImage events image → LeavesImage file (get image name)
 leaves_image events name n file image f is =
     image_of events n file (get image name) f.is (subst (λ (numbers : List (Option ℕ)). SomeOf (λ number. IsImageOf events number (get image name)) numbers) f.named (is.each name).one)
 
-pub may_stand : (events : List Event) (name : List ℕ) (n : ℕ) (file : FileState) (bytes : List ℕ) → IsFile events name n file → IsFileImage file bytes → MayStandAt events name (Some bytes)
+pub may_stand : (events : List Event) (name : List ℕ) (n : ℕ) (file : FileState) (bytes : List ℕ)
+    → IsFile events name n file → IsFileImage file bytes → MayStandAt events name (Some bytes)
 may_stand events name n file bytes f image = record {
   one = subst (λ (numbers : List (Option ℕ)). SomeOf (λ number. IsImageOf events number (Some bytes)) numbers) (sym f.named) (inl (subst (λ (x : FileState). IsFileImage x bytes) (sym f.is) image));
 }
@@ -127,7 +133,8 @@ pub record HasFile (events : List Event) (name : List ℕ) : Type 0 where
   pub file : FileState
   pub is : IsFile events name n file
 
-numbered : (events : List Event) (name : List ℕ) (number : Option ℕ) → number_at events name ≡ number → IsNamed events name → HasFile events name
+numbered : (events : List Event) (name : List ℕ) (number : Option ℕ) → number_at events name ≡ number
+    → IsNamed events name → HasFile events name
 numbered events name None none named =
     let absent : file_at events name ≡ None = file_at-numbered events name ∙ ap (bytes_by (file_of events)) none in
     let found : false ≡ true = rw absent at named.there.there in
@@ -160,7 +167,8 @@ has_pair events db wal apart named =
     }
 
 -- and the other way round
-pub is_named : (events : List Event) (name : List ℕ) (n : ℕ) (file : FileState) → IsFile events name n file → IsNamed events name
+pub is_named : (events : List Event) (name : List ℕ) (n : ℕ) (file : FileState) → IsFile events name n file
+    → IsNamed events name
 is_named events name n file f = record { there = record { there = subst (λ (x : Option (List ℕ)). IsSome x) (sym (reads events name n file f)) refl }; synced = f.named ∙ ap (λ (x : Option ℕ). x ∷ []) (sym f.number) }
 
 -- ---- what a crash left before, with other bytes of the database
@@ -171,7 +179,8 @@ pub record OldImage (events : List Event) (db wal bytes log : List ℕ) : Type 0
   pub database : bytes_in files db ≡ bytes
   pub log_is : bytes_in files wal ≡ log
 
-pub old_image : (events : List Event) (db wal : List ℕ) (d w : FileState) (bytes : List ℕ) → db ≢ wal → HasPair events db wal d w → IsFileImage d bytes → OldImage events db wal bytes w.bytes
+pub old_image : (events : List Event) (db wal : List ℕ) (d w : FileState) (bytes : List ℕ) → db ≢ wal
+    → HasPair events db wal d w → IsFileImage d bytes → OldImage events db wal bytes w.bytes
 old_image events db wal d w bytes apart p image =
     let placed = Placed db bytes ∷ events in
     let other : (q : List ℕ) → q ≢ db → file_at placed q ≡ file_at events q = λ q not. file_at-Placed-other events db bytes q not in
@@ -187,7 +196,8 @@ old_image events db wal d w bytes apart p image =
     }
 
 -- and with other bytes of both
-pub both_image : (events : List Event) (db wal : List ℕ) (d w : FileState) (bytes log : List ℕ) → db ≢ wal → HasPair events db wal d w → IsFileImage d bytes → IsFileImage w log → OldImage events db wal bytes log
+pub both_image : (events : List Event) (db wal : List ℕ) (d w : FileState) (bytes log : List ℕ) → db ≢ wal
+    → HasPair events db wal d w → IsFileImage d bytes → IsFileImage w log → OldImage events db wal bytes log
 both_image events db wal d w bytes log apart p image logged =
     let first = Placed db bytes ∷ events in
     let placed = Placed wal log ∷ first in

@@ -1,5 +1,6 @@
 -- What is left where a log is cut to nothing.
-use Rattle.std.proofs.Common.{◌≡◌, ◌≢◌, ◌∙◌, ℕ, ◌≤◌, ◌⊎◌, List, [], ◌∷◌, length, take, Option, Some, None, Ok, Err, unwrap_or, sym, ap, subst, refl, inl, inr, arith}
+use Rattle.std.proofs.Common.{◌≡◌, ◌≢◌, ◌∙◌, ℕ, ◌≤◌, ◌⊎◌, List, [], ◌∷◌, length, take, Option, Some, None, Ok, Err}
+use Rattle.std.proofs.Common.{unwrap_or, sym, ap, subst, refl, inl, inr, arith}
 use Rattle.std.specs.FinMap.{get}
 use Rattle.std.specs.List.{Contains, last_or}
 use Rattle.std.proofs.lemmas.List.{nil_from_length}
@@ -32,7 +33,8 @@ use Rattle.checkpointer.specs.PairState.{state_of_pair, bytes_in, bytes_at, stat
 use Rattle.checkpointer.specs.declared.fault.RestartFault.TheVariants.{Disk, Grown}
 use Rattle.checkpointer.specs.Reading.{IsNewer}
 use Rattle.checkpointer.specs.Restart.{MayRestart, KeepsAllBut, HasRestarted, Restarts}
-use Rattle.checkpointer.proofs.PairLemmas.{reads, itself, leaves_image, HasPair, IsPair, has_pair, pair-Cut_log, pair-Synced_log, both_image}
+use Rattle.checkpointer.proofs.PairLemmas.{reads, itself, leaves_image, HasPair, IsPair, has_pair, pair-Cut_log}
+use Rattle.checkpointer.proofs.PairLemmas.{pair-Synced_log, both_image}
 use Rattle.checkpointer.proofs.ViewOfPair.{state_at_mark}
 
 no_marks : marks_of [] ≡ []
@@ -54,7 +56,8 @@ states_same size db wal events image was = (image, since_start events image was,
 cut_image : (w : FileState) (bytes : List ℕ) → IsFileImage (resized 0 w) bytes → (bytes ≡ []) ⊎ IsFileImage w bytes
 cut_image w bytes image = by_length image.had_length
   where
-    by_length : SomeOf (λ size. length bytes ≡ size) (length (with_length 0 w.bytes) ∷ w.lengths) → (bytes ≡ []) ⊎ IsFileImage w bytes
+    by_length : SomeOf (λ size. length bytes ≡ size) (length (with_length 0 w.bytes) ∷ w.lengths)
+        → (bytes ≡ []) ⊎ IsFileImage w bytes
     by_length (inl is) = inl (nil_from_length bytes (is ∙ ap (λ (xs : List ℕ). length xs) (emptied w.bytes)))
     by_length (inr had) = inr (record { had_length = had; kept = λ place below synced free. image.kept place below synced (λ inside. free (older place inside)) })
       where
@@ -98,7 +101,8 @@ module _ (db wal : List ℕ) (apart : db ≢ wal) (copied : CopiedState) (x : Li
   there : (name bytes : List ℕ) (image : Files) → get image name ≡ Some bytes → bytes_in image name ≡ bytes
   there name bytes image is = ap (λ (left : Option (List ℕ)). unwrap_or left []) is
 
-  state_now : (image : Files) (bytes log : List ℕ) → get image db ≡ Some bytes → get image wal ≡ Some log → state_in size db wal image ≡ state_of_pair size bytes log
+  state_now : (image : Files) (bytes log : List ℕ) → get image db ≡ Some bytes → get image wal ≡ Some log
+      → state_in size db wal image ≡ state_of_pair size bytes log
   state_now image bytes log database logged = ap (λ (b : List ℕ). state_of_pair size b (bytes_in image wal)) (there db bytes image database) ∙ ap (state_of_pair size bytes) (there wal log image logged)
 
   cut_was : (image : Files) → IsCrashImage y image → Was image
@@ -154,12 +158,14 @@ module _ (db wal : List ℕ) (apart : db ≢ wal) (copied : CopiedState) (x : Li
 
 -- ---- the exits
 
-pub none_last : (marks : List Mark) (before : Option Mark) → last_or before marks ≡ None → (marks ≡ []) × (before ≡ None)
+pub none_last : (marks : List Mark) (before : Option Mark) → last_or before marks ≡ None
+    → (marks ≡ []) × (before ≡ None)
 none_last [] before e = (refl, e)
 none_last (mark ∷ marks) before e = let some = (none_last marks (Some mark) e).1 in absurd cc
 
 -- the last mark is the copied one where no mark is behind that
-pub is_last : (log : List ℕ) (mark : Mark) → IsMark log mark → (found : Option Mark) → last_mark_of log ≡ found → ((last : Mark) → last_mark_of log ≡ Some last → last.end ≤ mark.end) → last_mark_of log ≡ Some mark
+pub is_last : (log : List ℕ) (mark : Mark) → IsMark log mark → (found : Option Mark) → last_mark_of log ≡ found
+    → ((last : Mark) → last_mark_of log ≡ Some last → last.end ≤ mark.end) → last_mark_of log ≡ Some mark
 is_last log mark is_mark None e none =
     let among : Contains [] mark = subst (λ (ms : List Mark). Contains ms mark) (none_last (marks_of log) None e).0 is_mark in
     absurd (omega (arith, among.1))

@@ -1,5 +1,6 @@
 -- A run of changes of the database file, behind a log that is synced: what a crash since left.
-use Rattle.std.proofs.Common.{◌≡◌, ◌≢◌, ◌∙◌, ℕ, ◌+◌, ◌<◌, ◌≤◌, ◌⊎◌, List, [], ◌∷◌, length, Option, unwrap_or, get_or, sym, ap, subst, refl, inl, inr}
+use Rattle.std.proofs.Common.{◌≡◌, ◌≢◌, ◌∙◌, ℕ, ◌+◌, ◌<◌, ◌≤◌, ◌⊎◌, List, [], ◌∷◌, length, Option, unwrap_or, get_or}
+use Rattle.std.proofs.Common.{sym, ap, subst, refl, inl, inr, arith}
 use Rattle.crash_disk.specs.declared.event.Event.{Event}
 use Rattle.crash_disk.specs.declared.event.Event.TheVariants.{Wrote, Cut, Synced}
 use Rattle.crash_disk.specs.Files.{Files, file_at}
@@ -9,8 +10,10 @@ use Rattle.crash_disk.proofs.FileLaws.{file_at-Wrote-other, file_at-Cut-other, f
 use Rattle.crash_disk.proofs.Moments.{since_more, since_start}
 use Rattle.crash_disk.proofs.SettledLaws.{IsFileImage-settled}
 use Rattle.checkpointer.specs.PairState.{bytes_in}
-use Rattle.checkpointer.proofs.FileLemmas.{AgreeAt, ChangedApart, IsLikeBefore, like_before, apart_same, apart_written, apart_resized, get-written, get-resized}
-use Rattle.checkpointer.proofs.PairLemmas.{itself, leaves_image, HasPair, pair-Synced_log, pair-Synced, pair-Wrote, pair-Cut, old_image}
+use Rattle.checkpointer.proofs.FileLemmas.{AgreeAt, ChangedApart, IsLikeBefore, like_before, apart_same}
+use Rattle.checkpointer.proofs.FileLemmas.{apart_written, apart_resized, get-written, get-resized, get-grown}
+use Rattle.checkpointer.proofs.PairLemmas.{itself, leaves_image, HasPair, pair-Synced_log, pair-Synced, pair-Wrote}
+use Rattle.checkpointer.proofs.PairLemmas.{pair-Cut, old_image}
 
 module _ (Kept : ℕ → Type 0) (db wal log : List ℕ) where
   -- an image of before has this log, and agrees at the places that are kept
@@ -42,7 +45,8 @@ module _ (Kept : ℕ → Type 0) (db wal log : List ℕ) where
     had = (itself before db start.n old start.database).had_length
 
     -- an image of a file that is like one of before
-    alike_now : (now : List Event) (d : FileState) (image : Files) → HasPair now db wal d (synced_file log) → ((bytes : List ℕ) → IsFileImage d bytes → IsLikeBefore Kept old bytes)
+    alike_now : (now : List Event) (d : FileState) (image : Files) → HasPair now db wal d (synced_file log)
+        → ((bytes : List ℕ) → IsFileImage d bytes → IsLikeBefore Kept old bytes)
         → IsCrashImage now image → IsAlike before image
     alike_now now d image p like is =
         let database = leaves_image now db p.n d image p.database is in
@@ -58,12 +62,14 @@ module _ (Kept : ℕ → Type 0) (db wal log : List ℕ) where
           agree = λ place kept. ap (λ (xs : List ℕ). get_or xs place 0) o.database ∙ was.agree place kept ∙ ap (λ (xs : List ℕ). get_or xs place 0) (sym bytes);
         }
 
-    alike_more : (now : List Event) (event : Event) (d : FileState) → HasPair (event ∷ now) db wal d (synced_file log) → ((bytes : List ℕ) → IsFileImage d bytes → IsLikeBefore Kept old bytes)
+    alike_more : (now : List Event) (event : Event) (d : FileState) → HasPair (event ∷ now) db wal d (synced_file log)
+        → ((bytes : List ℕ) → IsFileImage d bytes → IsLikeBefore Kept old bytes)
         → WereAlike before now → WereAlike before (event ∷ now)
     alike_more now event d p like earlier image was =
         elim (since_more event now (length before) image was) [ inl is ↦ inr (alike_now (event ∷ now) d image p like is) | inr since ↦ earlier image since ]
 
-    changed_like : (d : FileState) → IsLong old → ChangedApart Kept old d → (bytes : List ℕ) → IsFileImage d bytes → IsLikeBefore Kept old bytes
+    changed_like : (d : FileState) → IsLong old → ChangedApart Kept old d → (bytes : List ℕ) → IsFileImage d bytes
+        → IsLikeBefore Kept old bytes
     changed_like d long c bytes image = like_before Kept old d c bytes image had (long (length old.bytes) had)
 
     -- the log is synced
@@ -79,7 +85,8 @@ module _ (Kept : ℕ → Type 0) (db wal log : List ℕ) where
         }
 
     -- bytes are written where nothing is kept
-    pub run_writes : (now : List Event) (d : FileState) (at : ℕ) (bytes : List ℕ) → Run old before now d → ((place : ℕ) → Kept place → (place < at) ⊎ (at + length bytes ≤ place))
+    pub run_writes : (now : List Event) (d : FileState) (at : ℕ) (bytes : List ℕ) → Run old before now d
+        → ((place : ℕ) → Kept place → (place < at) ⊎ (at + length bytes ≤ place))
         → Run old before (Wrote db at bytes ∷ now) (written at bytes d)
     run_writes now d at bytes r free =
         let pair = pair-Wrote now db wal d (synced_file log) r.pair at bytes in
@@ -92,7 +99,8 @@ module _ (Kept : ℕ → Type 0) (db wal log : List ℕ) where
         }
 
     -- the file gets a length that cuts nothing off that is kept
-    pub run_cuts : (now : List Event) (d : FileState) (size : ℕ) → Run old before now d → ((place : ℕ) → Kept place → place < size) → Run old before (Cut db size ∷ now) (resized size d)
+    pub run_cuts : (now : List Event) (d : FileState) (size : ℕ) → Run old before now d
+        → ((place : ℕ) → Kept place → place < size) → Run old before (Cut db size ∷ now) (resized size d)
     run_cuts now d size r free =
         let pair = pair-Cut now db wal d (synced_file log) r.pair size in
         record {
@@ -100,6 +108,20 @@ module _ (Kept : ℕ → Type 0) (db wal log : List ℕ) where
           agree = λ place kept. get-resized size d.bytes place (free place kept) ∙ r.agree place kept;
           changed = λ long. apart_resized Kept old d size (r.changed long) free;
           alike = λ long. alike_more now (Cut db size) (resized size d) pair (changed_like (resized size d) long (apart_resized Kept old d size (r.changed long) free)) (r.alike long);
+          others = λ q not. file_at-Cut-other now db size q not ∙ r.others q not;
+        }
+
+    -- or grows to it
+    pub run_grows : (now : List Event) (d : FileState) (size : ℕ) → Run old before now d → length d.bytes ≤ size
+        → Run old before (Cut db size ∷ now) (resized size d)
+    run_grows now d size r short =
+        let pair = pair-Cut now db wal d (synced_file log) r.pair size in
+        let apart : IsLong old → ChangedApart Kept old (resized size d) = λ long. apart_resized Kept old d size (r.changed long) (λ place kept. let within = (r.changed long).long place kept in omega (arith, within, short)) in
+        record {
+          pair = pair;
+          agree = λ place kept. get-grown size d.bytes place short ∙ r.agree place kept;
+          changed = apart;
+          alike = λ long. alike_more now (Cut db size) (resized size d) pair (changed_like (resized size d) long (apart long)) (r.alike long);
           others = λ q not. file_at-Cut-other now db size q not ∙ r.others q not;
         }
 

@@ -1,5 +1,7 @@
 -- The state of a pair by the places of the database file that it reads.
-use Rattle.std.proofs.Common.{◌≡◌, ◌≢◌, ◌∙◌, ℕ, zero, suc, ◌+◌, ◌-◌, ◌*◌, ◌<◌, ◌≤◌, Bool, true, false, cond, eqb, List, ◌∷◌, ◌++◌, drop, map, replicate, Option, Some, None, unwrap_or, Ok, get_or, sym, ap, subst, refl, inl, inr, arith}
+use Rattle.std.proofs.Common.{◌≡◌, ◌≢◌, ◌∙◌, ℕ, zero, suc, ◌+◌, ◌-◌, ◌*◌, ◌<◌, ◌≤◌, Bool, true, false, cond, eqb}
+use Rattle.std.proofs.Common.{List, ◌∷◌, ◌++◌, drop, map, replicate, Option, Some, None, unwrap_or, Ok, get_or, sym}
+use Rattle.std.proofs.Common.{ap, subst, refl, inl, inr, arith}
 use Rattle.std.specs.List.{range_with_len}
 use Rattle.std.proofs.Math.Nat.{add-mul}
 use Rattle.std.proofs.lemmas.Bool.{eqb-false}
@@ -27,18 +29,22 @@ pub record IsKept (log : List ℕ) (mark : Mark) (place : ℕ) : Type 0 where
 
 -- ---- pages by their bytes
 
-pub get-file_page : (size : ℕ) (file : List ℕ) (p k : ℕ) → k < size → get_or (file_page size file p) k 0 ≡ get_or file ((p - 1) * size + k) 0
+pub get-file_page : (size : ℕ) (file : List ℕ) (p k : ℕ) → k < size
+    → get_or (file_page size file p) k 0 ≡ get_or file ((p - 1) * size + k) 0
 get-file_page size file p k below =
     get_or-take size (drop ((p - 1) * size) file ++ replicate size 0) k 0 below ∙ get-padded (drop ((p - 1) * size) file) size k ∙ get_or-drop ((p - 1) * size) file k 0
 
-pub same_file_page : (size : ℕ) (a b : List ℕ) (p : ℕ) → ((k : ℕ) → k < size → get_or a ((p - 1) * size + k) 0 ≡ get_or b ((p - 1) * size + k) 0) → file_page size a p ≡ file_page size b p
+pub same_file_page : (size : ℕ) (a b : List ℕ) (p : ℕ)
+    → ((k : ℕ) → k < size → get_or a ((p - 1) * size + k) 0 ≡ get_or b ((p - 1) * size + k) 0)
+    → file_page size a p ≡ file_page size b p
 same_file_page size a b p same =
     let left = length-file_page size a p in
     let right = length-file_page size b p in
     ext_get_or 0 (file_page size a p) (file_page size b p) (left ∙ sym right)
     (λ k below. let within : k < size = omega (arith, below, left) in get-file_page size a p k within ∙ same k within ∙ sym (get-file_page size b p k within))
 
-same_pages : (f g : ℕ → List ℕ) (a n : ℕ) → ((p : ℕ) → a ≤ p → p < a + n → f p ≡ g p) → map f (range_with_len a n) ≡ map g (range_with_len a n)
+pub same_pages : (f g : ℕ → List ℕ) (a n : ℕ) → ((p : ℕ) → a ≤ p → p < a + n → f p ≡ g p)
+    → map f (range_with_len a n) ≡ map g (range_with_len a n)
 same_pages f g a zero same = refl
 same_pages f g a (suc n) same =
     let first : f a ≡ g a = same a (omega arith) (omega arith) in
@@ -52,7 +58,8 @@ module _ (log : List ℕ) (mark : Mark) (h : WalHeader) (accepted : read_header 
   abbrev frames : List (List ℕ)
   frames = frames_under h log
 
-  from_file : (p : ℕ) → 1 ≤ p → p ≤ mark.commit → p ≢ lock_page h.size → frames_page p (frames_to h frames mark) ≡ None → IsFromFile log mark p
+  from_file : (p : ℕ) → 1 ≤ p → p ≤ mark.commit → p ≢ lock_page h.size → frames_page p (frames_to h frames mark) ≡ None
+      → IsFromFile log mark p
   from_file p from upto unlocked none = record {
     from = from;
     upto = upto;
@@ -71,11 +78,13 @@ module _ (log : List ℕ) (mark : Mark) (h : WalHeader) (accepted : read_header 
         before = subst (λ (size : ℕ). (p - 1) * h.size + k < p * size) (sym size_is) (omega (arith, one, whole, below));
       }))
 
-  else_agrees : (p : ℕ) (page : Option (List ℕ)) → (page ≡ None → file_page h.size a p ≡ file_page h.size b p) → unwrap_or page (file_page h.size a p) ≡ unwrap_or page (file_page h.size b p)
+  else_agrees : (p : ℕ) (page : Option (List ℕ)) → (page ≡ None → file_page h.size a p ≡ file_page h.size b p)
+      → unwrap_or page (file_page h.size a p) ≡ unwrap_or page (file_page h.size b p)
   else_agrees p None same = same refl
   else_agrees p (Some page) same = refl
 
-  locked_agrees : (p : ℕ) (locked : Bool) (x y : List ℕ) → (locked ≡ false → x ≡ y) → cond locked (replicate h.size 0) x ≡ cond locked (replicate h.size 0) y
+  locked_agrees : (p : ℕ) (locked : Bool) (x y : List ℕ) → (locked ≡ false → x ≡ y)
+      → cond locked (replicate h.size 0) x ≡ cond locked (replicate h.size 0) y
   locked_agrees p true x y same = refl
   locked_agrees p false x y same = same refl
 
@@ -93,16 +102,20 @@ module _ (log : List ℕ) (mark : Mark) (h : WalHeader) (accepted : read_header 
 
 -- ---- the state of a pair
 
-pub state_at_mark : (size : ℕ) (file log : List ℕ) (mark : Mark) → last_mark_of log ≡ Some mark → state_of_pair size file log ≡ view_at file log mark
+pub state_at_mark : (size : ℕ) (file log : List ℕ) (mark : Mark) → last_mark_of log ≡ Some mark
+    → state_of_pair size file log ≡ view_at file log mark
 unfolding state_of_pair
 state_at_mark size file log mark e = ap (view_by size file log) e
 
-pub states_agree : (size : ℕ) (log : List ℕ) (mark : Mark) (a b : List ℕ) → last_mark_of log ≡ Some mark → AgreeAt (IsKept log mark) a b → state_of_pair size a log ≡ state_of_pair size b log
+pub states_agree : (size : ℕ) (log : List ℕ) (mark : Mark) (a b : List ℕ) → last_mark_of log ≡ Some mark
+    → AgreeAt (IsKept log mark) a b → state_of_pair size a log ≡ state_of_pair size b log
 states_agree size log mark a b e agree =
     let accepted = accepted_by_mark log mark (last_is_mark log mark e) in
     state_at_mark size a log mark e ∙ views_agree log mark accepted.0 accepted.1 a b agree ∙ sym (state_at_mark size b log mark e)
 
-pub states_were : (size : ℕ) (db wal log : List ℕ) (mark : Mark) (before now : List Event) → last_mark_of log ≡ Some mark → WereAlike (IsKept log mark) db wal log before now → StatesWere size db wal before now
+pub states_were : (size : ℕ) (db wal log : List ℕ) (mark : Mark) (before now : List Event)
+    → last_mark_of log ≡ Some mark → WereAlike (IsKept log mark) db wal log before now
+    → StatesWere size db wal before now
 states_were size db wal log mark before now e alike image was =
     elim (alike image was) [
       | inl is ↦ (image, is, refl)

@@ -28,7 +28,8 @@ NoneEnds log upto = (mark : Mark) → IsMark log mark → mark.end ≢ upto
 
 -- The mark is one of the log's, under this header, and ends at the offset. The offsets are those of the pages of the
 -- frames up to it.
-pub record IsFound (log : List ℕ) (upto : ℕ) (h : WalHeader) (pages : BTreeMap ℕ ℕ) (mark : Mark) (is_last : Bool) : Type 0 where
+pub record IsFound
+    (log : List ℕ) (upto : ℕ) (h : WalHeader) (pages : BTreeMap ℕ ℕ) (mark : Mark) (is_last : Bool) : Type 0 where
   pub head : read_header log ≡ Ok h
   pub is_mark : IsMark log mark
   pub end : mark.end ≡ upto

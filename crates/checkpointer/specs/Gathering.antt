@@ -24,4 +24,5 @@ pub record HasGathered (log : List ℕ) (scan : Scanned) (pages : BTreeMap ℕ �
 
 -- where the scan had taken the header alone, it has gathered the log up to the end
 abbrev pub GathersOn : List ℕ → ℕ → Scanned → BTreeMap ℕ ℕ → Scanned → BTreeMap ℕ ℕ → Type 0
-GathersOn log end old pages new more = end ≤ length log → HasGathered (take 32 log) old pages → HasGathered (take end log) new more
+GathersOn log end old pages new more =
+    end ≤ length log → HasGathered (take 32 log) old pages → HasGathered (take end log) new more

@@ -12,7 +12,8 @@ pub record IsPiece (file : List ℕ) (at end : ℕ) (buffer : List ℕ) (n : ℕ
 
 -- a scan that had taken the log up to the first offset has taken it up to the second
 abbrev pub ReadsOn : List ℕ → ℕ → ℕ → Scanned → Scanned → Type 0
-ReadsOn log from end old new = from ≤ end → end ≤ length log → HasTaken old (take from log) → HasTaken new (take end log)
+ReadsOn log from end old new =
+    from ≤ end → end ≤ length log → HasTaken old (take from log) → HasTaken new (take end log)
 
 -- where the scan had taken the log up to this offset: the last mark of the log, if it is behind
 abbrev pub IsNewer : List ℕ → ℕ → Scanned → Option Mark → Type 0

@@ -18,7 +18,8 @@ pub record MayRestart (db wal : List ℕ) (copied : CopiedState) (events : List 
   pub head : read_header (bytes_at events wal) ≡ Ok copied.head
   pub is_mark : IsMark (bytes_at events wal) copied.mark
   pub alone : last_mark_of (bytes_at events wal) ≡ Some copied.mark → (image : Files) → IsCrashImage events image
-      → view_at_rest copied.head.size (bytes_in image db) ≡ view_at (bytes_at events db) (bytes_at events wal) copied.mark
+      → view_at_rest copied.head.size (bytes_in image db)
+      ≡ view_at (bytes_at events db) (bytes_at events wal) copied.mark
 
 pub record KeepsAllBut (wal : List ℕ) (before now : List Event) : Type 0 where
   pub others : (q : List ℕ) → q ≢ wal → file_at now q ≡ file_at before q
@@ -31,7 +32,8 @@ pub record HasRestarted (db wal : List ℕ) (copied : CopiedState) (before now :
   pub state : LeavesState copied.head.size db wal now (state_in copied.head.size db wal (files_after before))
 
 -- what each answer means
-abbrev pub Restarts : List ℕ → List ℕ → CopiedState → {T : Type 0} → Result T RestartFault → List Event → List Event → Type 0
+abbrev pub Restarts : List ℕ → List ℕ → CopiedState → {T : Type 0} → Result T RestartFault → List Event → List Event
+    → Type 0
 Restarts db wal copied (Ok done) before now =
     KeepsAllBut wal before now × StatesWere copied.head.size db wal before now × HasRestarted db wal copied before now
 Restarts db wal copied (Err (Grown last)) before now =

@@ -24,7 +24,8 @@ impl Model for Copied {
 
     ghost view = { λ c. record { head = c.scan.head; mark = c.mark } };
 
-    ghost invariant = { λ c. (c.scan ≡ scanned_to c.scan.head c.mark) × (32 ≤ c.mark.end) × (0 < length c.buffer.items) };
+    ghost invariant = { λ c.
+        (c.scan ≡ scanned_to c.scan.head c.mark) × (32 ≤ c.mark.end) × (0 < length c.buffer.items) };
 }
 
 impl Copied {

@@ -12,7 +12,7 @@ use crate::fault::BackfillFault;
 use crate::gathering::{HEADER_BYTES, gather_on};
 use crate::reading::newer_mark;
 use crash_disk::Disk;
-use ls_base::Mark;
+use ls_base::{Mark, PageSize};
 use std::alloc::Global;
 use std::collections::BTreeMap;
 use wal_frames::{Scan, WalHeader, read_wal_header};
@@ -29,6 +29,8 @@ pub(crate) struct Found {
     pub(crate) pages: BTreeMap<u32, u64>,
     /// The mark.
     pub(crate) mark: Mark,
+    /// The page size of the log.
+    pub(crate) size: PageSize,
     /// Whether it is the last one of the log.
     pub(crate) is_last: bool,
     /// Room for a piece of the log, and for any page.
@@ -64,10 +66,14 @@ pub(crate) fn find<D: Disk>(
     wal: &str,
     upto: u64,
 ) -> Result<Found, BackfillFault>
-    ensures found { IfOk result (λ found. IfTold (D.told disk.old) (λ events. IsFound (bytes_at events wal.now) upto found.scan.head found.pages found.mark found.is_last)) }
-    ensures stands { IfOk result (λ found. (found.scan ≡ scanned_to found.scan.head found.mark) × (32 ≤ found.mark.end)) }
+    ensures found { IfOk result (λ found. IfTold (D.told disk.old) (λ events.
+        IsFound (bytes_at events wal.now) upto found.scan.head found.pages found.mark found.is_last)) }
+    ensures stands { IfOk result (λ found.
+        (found.scan ≡ scanned_to found.scan.head found.mark) × (32 ≤ found.mark.end)) }
+    ensures size { IfOk result (λ found. found.size ≡ found.scan.head.size) }
     ensures room { IfOk result (λ found. length found.buffer.items ≡ 65536) }
-    ensures not_mark { IfTold (D.told disk.old) (λ events. IsErrOf result NotMark → NoneEnds (bytes_at events wal.now) upto) }
+    ensures not_mark { IfTold (D.told disk.old) (λ events.
+        IsErrOf result NotMark → NoneEnds (bytes_at events wal.now) upto) }
     ensures unchanged { D.told disk.new ≡ D.told disk.old }
     ensures same_folder { D.folder disk.new ≡ D.folder disk.old }
     ensures cause { BackfillHasCause (D.fault_count disk.old) (D.fault_count disk.new) result }
@@ -99,10 +105,14 @@ fn find_at<D: Disk>(
 ) -> Result<Found, BackfillFault>
     requires bound { (32 ≤ upto) × (upto < 2 ^ 63) }
     requires log { IfTold (D.told disk.old) (λ events. HasHeader (bytes_at events wal.now) head upto) }
-    ensures found { IfOk result (λ found. IfTold (D.told disk.old) (λ events. IsFound (bytes_at events wal.now) upto found.scan.head found.pages found.mark found.is_last)) }
-    ensures stands { IfOk result (λ found. (found.scan ≡ scanned_to found.scan.head found.mark) × (32 ≤ found.mark.end)) }
+    ensures found { IfOk result (λ found. IfTold (D.told disk.old) (λ events.
+        IsFound (bytes_at events wal.now) upto found.scan.head found.pages found.mark found.is_last)) }
+    ensures stands { IfOk result (λ found.
+        (found.scan ≡ scanned_to found.scan.head found.mark) × (32 ≤ found.mark.end)) }
+    ensures size { IfOk result (λ found. found.size ≡ found.scan.head.size) }
     ensures room { IfOk result (λ found. length found.buffer.items ≡ 65536) }
-    ensures not_mark { IfTold (D.told disk.old) (λ events. IsErrOf result NotMark → NoneEnds (bytes_at events wal.now) upto) }
+    ensures not_mark { IfTold (D.told disk.old) (λ events.
+        IsErrOf result NotMark → NoneEnds (bytes_at events wal.now) upto) }
     ensures unchanged { D.told disk.new ≡ D.told disk.old }
     ensures same_folder { D.folder disk.new ≡ D.folder disk.old }
     ensures cause { BackfillHasCause (D.fault_count disk.old) (D.fault_count disk.new) result }
@@ -138,6 +148,7 @@ fn find_at<D: Disk>(
         scan,
         pages,
         mark,
+        size: head.size,
         is_last: newer.is_none(),
         buffer,
     })

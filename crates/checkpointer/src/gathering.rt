@@ -26,7 +26,9 @@ pub(crate) fn gather(
 ) -> Result<(), Memory>
     requires size { size ≡ scan.old.head.size }
     requires bound { scan.old.taken + length bytes.now < 2 ^ 63 }
-    ensures value { OnOk result ((log : List ℕ) → HasGathered log scan.old pages.old → HasGathered (log ++ bytes.now) scan.new pages.new) }
+    ensures value { OnOk result
+        ((log : List ℕ) → HasGathered log scan.old pages.old
+        → HasGathered (log ++ bytes.now) scan.new pages.new) }
     ensures taken { OnOk result (scan.new.taken ≡ scan.old.taken + length bytes.now) }
     ensures head { OnOk result (scan.new.head ≡ scan.old.head) }
 {
@@ -58,8 +60,10 @@ pub(crate) fn gather_on<D: Disk>(
     requires begun { scan.old.taken ≡ 0 }
     requires bound { (32 ≤ end) × (end < 2 ^ 63) }
     requires room { 0 < length buffer.old }
-    ensures value { OnOk result (IfTold (D.told disk.old) (λ events. GathersOn (bytes_at events wal.now) end scan.old pages.old scan.new pages.new)) }
-    ensures whole { IfTold (D.told disk.old) (λ events. end ≤ length (bytes_at events wal.now) → IsErrOf result NotMark → ⊥) }
+    ensures value { OnOk result (IfTold (D.told disk.old) (λ events.
+        GathersOn (bytes_at events wal.now) end scan.old pages.old scan.new pages.new)) }
+    ensures whole { IfTold (D.told disk.old) (λ events.
+        end ≤ length (bytes_at events wal.now) → IsErrOf result NotMark → ⊥) }
     ensures taken { OnOk result (scan.new.taken + 32 ≡ end) }
     ensures head { OnOk result (scan.new.head ≡ scan.old.head) }
     ensures unchanged { D.told disk.new ≡ D.told disk.old }

@@ -22,7 +22,8 @@ pub(crate) fn next_piece<D: Disk>(
     requires before { at < end }
     requires room { 0 < length buffer.old }
     ensures bound { IfOk result (λ n. (n ≤ length buffer.new) × (at + n ≤ end)) }
-    ensures piece { IfOk result (λ n. IfTold (D.told disk.old) (λ events. IsPiece (bytes_at events name.now) at end buffer.new n)) }
+    ensures piece { IfOk result (λ n. IfTold (D.told disk.old) (λ events.
+        IsPiece (bytes_at events name.now) at end buffer.new n)) }
     ensures unchanged { D.told disk.new ≡ D.told disk.old }
     ensures same_folder { D.folder disk.new ≡ D.folder disk.old }
     ensures cause { HasCause (D.fault_count disk.old) (D.fault_count disk.new) result }
@@ -56,7 +57,8 @@ pub(crate) fn scan_on<D: Disk>(
     requires stands { scan.old.taken + 32 ≡ from }
     requires bound { end < 2 ^ 63 }
     requires room { 0 < length buffer.old }
-    ensures value { OnOk result (IfTold (D.told disk.old) (λ events. ReadsOn (bytes_at events wal.now) from end scan.old scan.new)) }
+    ensures value { OnOk result (IfTold (D.told disk.old) (λ events.
+        ReadsOn (bytes_at events wal.now) from end scan.old scan.new)) }
     ensures head { scan.new.head ≡ scan.old.head }
     ensures unchanged { D.told disk.new ≡ D.told disk.old }
     ensures same_folder { D.folder disk.new ≡ D.folder disk.old }
@@ -84,7 +86,8 @@ pub(crate) fn newer_mark<D: Disk>(
 ) -> Result<Option<Mark>, DiskFault>
     requires stands { scan.old.taken + 32 ≡ from }
     requires room { 0 < length buffer.old }
-    ensures value { IfOk result (λ newer. IfTold (D.told disk.old) (λ events. IsNewer (bytes_at events wal.now) from scan.old newer)) }
+    ensures value { IfOk result (λ newer. IfTold (D.told disk.old) (λ events.
+        IsNewer (bytes_at events wal.now) from scan.old newer)) }
     ensures head { scan.new.head ≡ scan.old.head }
     ensures unchanged { D.told disk.new ≡ D.told disk.old }
     ensures same_folder { D.folder disk.new ≡ D.folder disk.old }

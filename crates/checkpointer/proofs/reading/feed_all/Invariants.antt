@@ -8,7 +8,8 @@ invariant-loop-taken l = record {
   short : length l.rest ≤ length l.bytes;
   taken : l.scan.taken + length l.rest ≡ l.fn.scan.taken + length l.bytes;
   head : l.scan.head ≡ l.fn.scan.head;
-  value : (log : List ℕ) → HasTaken l.fn.scan log → HasTaken l.scan (log ++ take (length l.bytes - length l.rest) l.bytes);
+  value : (log : List ℕ) → HasTaken l.fn.scan log
+      → HasTaken l.scan (log ++ take (length l.bytes - length l.rest) l.bytes);
 }
 
 abbrev pub decreases-loop-taken : goal.decreases-loop-taken
