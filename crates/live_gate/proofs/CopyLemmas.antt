@@ -1,5 +1,6 @@
 -- Copying into the database file is a step.
-use Rattle.std.proofs.Common.{◌≡◌, ℕ, ◌-◌, ◌*◌, ◌/◌, ◌≤◌, List, [], ◌∷◌, ◌++◌, map, length, take, drop, Option, Some, None, refl, sym, ap, subst, ◌∙◌, inl, inr, append_assoc, append-nil, arith}
+use Rattle.std.proofs.Common.{◌≡◌, ℕ, ◌-◌, ◌*◌, ◌/◌, ◌≤◌, List, [], ◌∷◌, ◌++◌, map, length, take, drop, Option, Some}
+use Rattle.std.proofs.Common.{None, refl, sym, ap, subst, ◌∙◌, inl, inr, append_assoc, append-nil, arith}
 use Rattle.std.specs.Prelude.{unwrap_or}
 use Rattle.std.specs.List.{Contains, flat_map, range_with_len}
 use Rattle.std.specs.Option.{option_or}
@@ -16,7 +17,8 @@ use Rattle.wal_frames.specs.Marks.{marks_of}
 use Rattle.wal_frames.specs.View.{frames_page, frames_to, file_page, unless_locked, page_at_mark, view_under}
 use Rattle.wal_frames.proofs.LogLemmas.{no_marks}
 use Rattle.live_gate.specs.LiveRecord.{Database}
-use Rattle.live_gate.specs.Legal.{Commit, all_frames, commit_mark, FitsCommit, AreEntries, HasCommits, IsRecorded, IsMarkEnd, IsHeld, IsWithoutTwins, IsLegal, last_state}
+use Rattle.live_gate.specs.Legal.{Commit, all_frames, commit_mark, FitsCommit, AreEntries, HasCommits, IsRecorded}
+use Rattle.live_gate.specs.Legal.{IsMarkEnd, IsHeld, IsWithoutTwins, IsLegal, last_state}
 use Rattle.live_gate.specs.Step.{IsWriterStep}
 use Rattle.live_gate.specs.Moves.{frames_before, CopiesFrames}
 use Rattle.live_gate.proofs.CommitLemmas.{no_log}
@@ -33,8 +35,10 @@ front_lacks p k frames none =
     (sym (frames_page-append p (take k frames) (drop k frames)) ∙ ap (frames_page p) (take-append-drop k frames) ∙ none)
 
 module _ (h : WalHeader) (file after : List ℕ) (copied now : ℕ) (all : List (List ℕ)) (later : copied ≤ now)
-    (others : (p : ℕ) → frames_page p (frames_before h all now) ≡ None → file_page h.size after p ≡ file_page h.size file p) where
-  module _ (passed rest : List (List ℕ)) (c : Commit) (split : all ≡ (passed ++ all_frames c) ++ rest) (past : now ≤ (commit_mark h passed c).end) where
+    (others : (p : ℕ) → frames_page p (frames_before h all now) ≡ None
+    → file_page h.size after p ≡ file_page h.size file p) where
+  module _ (passed rest : List (List ℕ)) (c : Commit) (split : all ≡ (passed ++ all_frames c) ++ rest)
+      (past : now ≤ (commit_mark h passed c).end) where
     abbrev upto : List (List ℕ)
     upto = passed ++ all_frames c
 
@@ -44,34 +48,47 @@ module _ (h : WalHeader) (file after : List ℕ) (copied now : ℕ) (all : List 
     few : (now - 32) / frame_length h ≤ length upto
     few =
         let bound : now - 32 ≤ length (passed ++ c.frames ++ c.last ∷ []) * frame_length h = omega (arith, past) in
-        div-le_of_le-mul (frame_length h) {n = length upto} (subst (λ (n : ℕ). now - 32 ≤ n) (ap (λ (n : ℕ). n * frame_length h) count_is ∙ omega arith) bound)
+        div-le_of_le-mul (frame_length h) {n = length upto}
+        (subst (λ (n : ℕ). now - 32 ≤ n) (ap (λ (n : ℕ). n * frame_length h) count_is ∙ omega arith) bound)
 
     all_to : frames_to h upto (commit_mark h passed c) ≡ upto
     all_to =
         let same : passed ++ c.frames ++ c.last ∷ [] ≡ upto = append_assoc passed c.frames (c.last ∷ []) in
-        ap (λ (frames : List (List ℕ)). frames_to h frames (commit_mark h passed c)) (sym same) ∙ frames_here h file (passed ++ c.frames) [] c.last ∙ same
+        ap (λ (frames : List (List ℕ)). frames_to h frames (commit_mark h passed c)) (sym same)
+        ∙ frames_here h file (passed ++ c.frames) [] c.last ∙ same
 
     before_is : frames_before h all now ≡ take ((now - 32) / frame_length h) upto
-    before_is = ap (take ((now - 32) / frame_length h)) split ∙ take-append-le ((now - 32) / frame_length h) upto rest few
+    before_is = ap (take ((now - 32) / frame_length h)) split
+        ∙ take-append-le ((now - 32) / frame_length h) upto rest few
 
-    either_page : (p : ℕ) (o : Option (List ℕ)) → frames_page p upto ≡ o → unwrap_or o (file_page h.size file p) ≡ unwrap_or o (file_page h.size after p)
-    either_page p None none = sym (others p (ap (frames_page p) before_is ∙ front_lacks p ((now - 32) / frame_length h) upto none))
+    either_page : (p : ℕ) (o : Option (List ℕ)) → frames_page p upto ≡ o
+        → unwrap_or o (file_page h.size file p) ≡ unwrap_or o (file_page h.size after p)
+    either_page p None none = sym
+        (others p (ap (frames_page p) before_is ∙ front_lacks p ((now - 32) / frame_length h) upto none))
     either_page p (Some page) found = refl
 
-    page_same : (p : ℕ) → page_at_mark h file upto (commit_mark h passed c) p ≡ page_at_mark h after upto (commit_mark h passed c) p
+    page_same : (p : ℕ) → page_at_mark h file upto (commit_mark h passed c) p ≡ page_at_mark h after upto
+        (commit_mark h passed c) p
     page_same p =
-        ap (λ (frames : List (List ℕ)). unless_locked h.size p (unwrap_or (frames_page p frames) (file_page h.size file p))) all_to
+        ap (λ (frames : List (List ℕ)). unless_locked h.size p
+        (unwrap_or (frames_page p frames) (file_page h.size file p))) all_to
         ∙ ap (unless_locked h.size p) (either_page p (frames_page p upto) refl)
-        ∙ ap (λ (frames : List (List ℕ)). unless_locked h.size p (unwrap_or (frames_page p frames) (file_page h.size after p))) (sym all_to)
+        ∙ ap (λ (frames : List (List ℕ)). unless_locked h.size p
+        (unwrap_or (frames_page p frames) (file_page h.size after p))) (sym all_to)
 
     view_same : view_under h file upto (commit_mark h passed c) ≡ view_under h after upto (commit_mark h passed c)
     view_same =
         let f = page_at_mark h file upto (commit_mark h passed c) in
         let g = page_at_mark h after upto (commit_mark h passed c) in
         let same : f ≡ g = λ i p. page_same p i in
-        ap (λ (each : ℕ → List ℕ). record { page_size = Some h.size; pages = map each (range_with_len 1 (commit_mark h passed c).commit) }) same
+        ap (λ (each : ℕ → List ℕ). record {
+          page_size = Some h.size;
+          pages = map each
+              (range_with_len 1 (commit_mark h passed c).commit);
+        }) same
 
-  refits : (passed rest : List (List ℕ)) (before : Option State) (c : Commit) (e : Entry) → all ≡ (passed ++ all_frames c) ++ rest
+  refits : (passed rest : List (List ℕ)) (before : Option State) (c : Commit) (e : Entry)
+      → all ≡ (passed ++ all_frames c) ++ rest
       → FitsCommit h file copied passed before c e → FitsCommit h after now passed before c e
   refits passed rest before c e split fits = record {
     unfinished = fits.unfinished;
@@ -86,17 +103,23 @@ module _ (h : WalHeader) (file after : List ℕ) (copied now : ℕ) (all : List 
     view = λ past. fits.view (omega (arith, later, past)) ∙ view_same passed rest c split past;
   }
 
-  entries_copied : (passed : List (List ℕ)) (before : Option State) (cs : List Commit) (es : List Entry) → all ≡ passed ++ flat_map all_frames cs
+  entries_copied : (passed : List (List ℕ)) (before : Option State) (cs : List Commit) (es : List Entry)
+      → all ≡ passed ++ flat_map all_frames cs
       → AreEntries h file copied passed before cs es → AreEntries h after now passed before cs es
   entries_copied passed before [] [] split are = tt
   entries_copied passed before [] (e ∷ es) split are = absurd are
   entries_copied passed before (c ∷ cs) [] split are = absurd are
   entries_copied passed before (c ∷ cs) (e ∷ es) split (first, rest) =
-      let next : all ≡ (passed ++ all_frames c) ++ flat_map all_frames cs = split ∙ sym (append_assoc passed (all_frames c) (flat_map all_frames cs)) in
-      (refits passed (flat_map all_frames cs) before c e next first, entries_copied (passed ++ all_frames c) (Some (state_of e)) cs es next rest)
+      let next : all ≡ (passed ++ all_frames c) ++ flat_map all_frames cs = split
+      ∙ sym (append_assoc passed (all_frames c) (flat_map all_frames cs)) in (
+        refits passed (flat_map all_frames cs) before c e next first,
+        entries_copied (passed ++ all_frames c)
+            (Some (state_of e)) cs es next rest,
+      )
 
 module _ (old new : Database) (a : CopiesFrames old new) where
-  commits_copied : HasCommits old.history old.committed old.file old.copied → HasCommits old.history old.committed new.file new.copied
+  commits_copied : HasCommits old.history old.committed old.file old.copied
+      → HasCommits old.history old.committed new.file new.copied
   commits_copied has = record {
     h = has.h;
     accepted = has.accepted;
@@ -107,7 +130,9 @@ module _ (old new : Database) (a : CopiesFrames old new) where
     earlier = has.earlier;
     latest = has.latest;
     split = has.split;
-    entries = entries_copied has.h old.file new.file old.copied new.copied (valid_frames old.committed) a.later (λ p. a.others has.h p has.accepted) [] (last_state None has.earlier) has.commits has.latest has.frames has.entries;
+    entries = entries_copied has.h old.file new.file old.copied new.copied (valid_frames old.committed) a.later
+        (λ p. a.others has.h p has.accepted) []
+        (last_state None has.earlier) has.commits has.latest has.frames has.entries;
   }
 
   empty_has_none : old.committed ≡ [] → ⊥
@@ -117,7 +142,8 @@ module _ (old new : Database) (a : CopiesFrames old new) where
       let no : marks_of old.committed ≡ [] = ap marks_of none ∙ no_marks [] Short no_log in
       omega (arith, is.1, ap length no)
 
-  recorded_copied : IsRecorded old.history old.committed old.file old.copied → IsRecorded old.history old.committed new.file new.copied
+  recorded_copied : IsRecorded old.history old.committed old.file old.copied
+      → IsRecorded old.history old.committed new.file new.copied
   recorded_copied (inl has) = inl (commits_copied has)
   recorded_copied (inr rest) = absurd (empty_has_none rest.none)
 
@@ -130,13 +156,15 @@ module _ (old new : Database) (a : CopiesFrames old new) where
   copy_legal is = record {
     recorded =
         subst (λ (log : List ℕ). IsRecorded new.history log new.file new.copied) (sym a.committed)
-        (subst (λ (es : History). IsRecorded es old.committed new.file new.copied) (sym a.history) (recorded_copied is.recorded));
+        (subst (λ (es : History). IsRecorded es old.committed new.file new.copied) (sym a.history)
+        (recorded_copied is.recorded));
     is_copied = λ _. subst (λ (log : List ℕ). IsMarkEnd log new.copied) (sym a.committed) a.at_mark;
     is_held =
         subst (λ (o : Option ℕ). IsHeld new.committed new.copied o) (sym a.held)
         (subst (λ (log : List ℕ). IsHeld log new.copied old.held) (sym a.committed) (held_copied is.is_held));
     without_twins =
-        subst (λ (n : ℕ). IsWithoutTwins new.history n) (sym a.chances) (subst (λ (es : History). IsWithoutTwins es old.chances) (sym a.history) is.without_twins);
+        subst (λ (n : ℕ). IsWithoutTwins new.history n) (sym a.chances)
+        (subst (λ (es : History). IsWithoutTwins es old.chances) (sym a.history) is.without_twins);
   }
 
   pub copy_step : IsWriterStep old new

@@ -8,3 +8,4 @@ pub mod MoveLemmas
 pub mod CopyLemmas
 pub mod StopLemmas
 pub mod StandardFacts
+mod HistoryFacts

@@ -23,12 +23,33 @@ pub needs_an_entry : (file : List ℕ) → IsAtRest [] [] file 0 → ⊥
 needs_an_entry file rest = nothing_there rest.earlier rest.last rest.split
 
 -- an empty log of which something is copied
-pub nothing_to_copy : (history : History) (file : List ℕ) → IsLegal (record { history = history; committed = []; file = file; copied = 1104; held = None; refuses = true; stopped = true; chances = 0 }) → ⊥
+pub nothing_to_copy : (history : History) (file : List ℕ)
+    → IsLegal (record {
+      history = history;
+      committed = [];
+      file = file;
+      copied = 1104;
+      held = None;
+      refuses = true;
+      stopped = true;
+      chances = 0;
+    }) → ⊥
 nothing_to_copy history file is = no_mark_end 1104 (is.is_copied (λ e. omega (arith, e)))
 
 -- a gate that is held at no mark where frames are copied
-pub held_before_the_copied : (history : History) (log file : List ℕ) → IsLegal (record { history = history; committed = log; file = file; copied = 1104; held = Some 0; refuses = true; stopped = true; chances = 0 }) → ⊥
-held_before_the_copied history log file is = let zeros : 1104 ≡ 0 = (is.is_held 0 refl).at_no_mark refl in absurd (omega (arith, zeros))
+pub held_before_the_copied : (history : History) (log file : List ℕ)
+    → IsLegal (record {
+      history = history;
+      committed = log;
+      file = file;
+      copied = 1104;
+      held = Some 0;
+      refuses = true;
+      stopped = true;
+      chances = 0;
+    }) → ⊥
+held_before_the_copied history log file is = let zeros : 1104 ≡ 0 = (is.is_held 0 refl).at_no_mark refl in absurd
+    (omega (arith, zeros))
 
 -- ---- values
 
@@ -39,5 +60,6 @@ pub page_sizes_without_headers : (file_page_size [] ≡ 512) × (log_page_size [
 page_sizes_without_headers = (refl, ap (λ r. if_accepted r (λ h. h.size) 512) no_log)
 
 -- bytes agree as far as both lists go, in both directions
-pub agreeing : AgreeInFront (1 ∷ 2 ∷ []) (1 ∷ 2 ∷ 3 ∷ []) × AgreeInFront (1 ∷ 2 ∷ 3 ∷ []) (1 ∷ 2 ∷ []) × (AgreeInFront (1 ∷ 4 ∷ []) (1 ∷ 2 ∷ 3 ∷ []) → ⊥)
+pub agreeing : AgreeInFront (1 ∷ 2 ∷ []) (1 ∷ 2 ∷ 3 ∷ []) × AgreeInFront (1 ∷ 2 ∷ 3 ∷ []) (1 ∷ 2 ∷ []) ×
+    (AgreeInFront (1 ∷ 4 ∷ []) (1 ∷ 2 ∷ 3 ∷ []) → ⊥)
 agreeing = (refl, refl, λ e. absurd cc)

@@ -11,7 +11,11 @@ pub prefix_itself : {A : Type 0} (xs : List A) → IsPrefix xs xs
 prefix_itself xs = record { rest = []; is = sym (append-nil xs) }
 
 pub prefix_join : {A : Type 0} (xs ys zs : List A) → IsPrefix xs ys → IsPrefix ys zs → IsPrefix xs zs
-prefix_join xs ys zs a b = record { rest = a.rest ++ b.rest; is = b.is ∙ ap (λ list. list ++ b.rest) a.is ∙ append_assoc xs a.rest b.rest }
+prefix_join xs ys zs a b = record {
+  rest = a.rest ++ b.rest;
+  is = b.is ∙ ap (λ list. list ++ b.rest) a.is
+      ∙ append_assoc xs a.rest b.rest;
+}
 
 -- ---- steps
 
@@ -20,12 +24,19 @@ step_itself d = record {
   legal = λ is. is;
   history = prefix_itself d.history;
   chances = omega arith;
-  hold = λ end held. inl (record { held = held; committed = prefix_itself d.committed; entries = refl; file = λ none. refl });
+  hold = λ end held. inl (record {
+    held = held;
+    committed = prefix_itself d.committed;
+    entries = refl;
+    file = λ none.
+        refl;
+  });
   free = λ is. is;
   stopped = λ is. is;
 }
 
-hold_join : (end : ℕ) (a b c : Database) → IsWriterStep b c → KeepsHold end a b → KeepsHold end b c ⊎ HasStopped c → KeepsHold end a c ⊎ HasStopped c
+hold_join : (end : ℕ) (a b c : Database) → IsWriterStep b c → KeepsHold end a b → KeepsHold end b c ⊎ HasStopped c
+    → KeepsHold end a c ⊎ HasStopped c
 hold_join end a b c second first (inl next) = inl (record {
   held = next.held;
   committed = prefix_join a.committed b.committed c.committed first.committed next.committed;
@@ -34,9 +45,11 @@ hold_join end a b c second first (inl next) = inl (record {
 })
 hold_join end a b c second first (inr over) = inr over
 
-hold_over : (end : ℕ) (a b c : Database) → IsWriterStep b c → KeepsHold end a b ⊎ HasStopped b → KeepsHold end a c ⊎ HasStopped c
+hold_over : (end : ℕ) (a b c : Database) → IsWriterStep b c → KeepsHold end a b ⊎ HasStopped b
+    → KeepsHold end a c ⊎ HasStopped c
 hold_over end a b c second (inl first) = hold_join end a b c second first (second.hold end first.held)
-hold_over end a b c second (inr over) = inr (record { stopped = second.stopped over.stopped; free = second.free over.free })
+hold_over end a b c second (inr over) = inr
+    (record { stopped = second.stopped over.stopped; free = second.free over.free })
 
 pub step_join : (a b c : Database) → IsWriterStep a b → IsWriterStep b c → IsWriterStep a c
 step_join a b c first second = record {

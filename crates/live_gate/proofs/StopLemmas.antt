@@ -1,5 +1,6 @@
 -- A stop of the machine is a step.
-use Rattle.std.proofs.Common.{◌≡◌, ℕ, List, [], ◌∷◌, ◌++◌, length, Option, Some, None, sym, ap, subst, ◌∙◌, inl, inr, append_assoc, arith}
+use Rattle.std.proofs.Common.{◌≡◌, ℕ, List, [], ◌∷◌, ◌++◌, length, Option, Some, None, sym, ap, subst, ◌∙◌, inl, inr}
+use Rattle.std.proofs.Common.{append_assoc, arith}
 use Rattle.ls_base.specs.declared.entry.Entry.{Entry}
 use Rattle.ls_base.specs.State.{State}
 use Rattle.ls_base.specs.History.{state_of}
@@ -12,13 +13,18 @@ use Rattle.live_gate.proofs.MoveLemmas.{twins_kept, last_state-append}
 
 module _ (h : WalHeader) (file : List ℕ) (copied : ℕ) where
   -- the first commits and their entries
-  pub entries-front : (passed : List (List ℕ)) (before : Option State) (kept lost : List Commit) (again gone : List Entry) → length again ≡ length kept
-      → AreEntries h file copied passed before (kept ++ lost) (again ++ gone) → AreEntries h file copied passed before kept again
+  pub entries-front : (passed : List (List ℕ)) (before : Option State) (kept lost : List Commit)
+      (again gone : List Entry) → length again ≡ length kept
+      → AreEntries h file copied passed before (kept ++ lost) (again ++ gone)
+      → AreEntries h file copied passed before kept again
   entries-front passed before [] lost [] gone many are = tt
   entries-front passed before [] lost (e ∷ again) gone many are = absurd (omega (arith, many))
   entries-front passed before (c ∷ kept) lost [] gone many are = absurd (omega (arith, many))
-  entries-front passed before (c ∷ kept) lost (e ∷ again) gone many (first, rest) =
-      (first, entries-front (passed ++ all_frames c) (Some (state_of e)) kept lost again gone (omega (arith, many)) rest)
+  entries-front passed before (c ∷ kept) lost (e ∷ again) gone many (first, rest) = (
+    first,
+    entries-front (passed ++ all_frames c) (Some (state_of e)) kept lost again gone
+        (omega (arith, many)) rest,
+  )
 
 not_held : (held : Option ℕ) (end : ℕ) → held ≡ None → held ≡ Some end → ⊥
 not_held held end none some = cc
@@ -32,14 +38,17 @@ module _ (old new : Database) (a : FallsBack old new) where
 
   same_before : last_state None a.has.earlier ≡ last_state None (old.history ++ a.before ∷ [])
   same_before =
-      ap (last_state None) a.was ∙ last_state-append None a.earlier (a.before ∷ []) ∙ sym (last_state-append None old.history (a.before ∷ []))
+      ap (last_state None) a.was ∙ last_state-append None a.earlier (a.before ∷ [])
+      ∙ sym (last_state-append None old.history (a.before ∷ []))
 
   back_commits : HasCommits new.history new.committed new.file new.copied
   back_commits =
       let h = a.has.h in
       let before = last_state None a.has.earlier in
-      let parted = subst (λ (cs : List Commit). AreEntries h old.file old.copied [] before cs a.has.latest) a.commits a.has.entries in
-      let both = subst (λ (es : List Entry). AreEntries h old.file old.copied [] before (a.kept ++ a.lost) es) a.entries parted in
+      let parted = subst (λ (cs : List Commit). AreEntries h old.file old.copied [] before cs a.has.latest) a.commits
+      a.has.entries in
+      let both = subst (λ (es : List Entry). AreEntries h old.file old.copied [] before
+      (a.kept ++ a.lost) es) a.entries parted in
       let front = entries-front h old.file old.copied [] before a.kept a.lost a.again a.gone a.as_many both in
       let filed = subst (λ (file : List ℕ). AreEntries h file old.copied [] before a.kept a.again) (sym a.file) front in
       let copied = subst (λ (n : ℕ). AreEntries h new.file n [] before a.kept a.again) (sym a.copied) filed in

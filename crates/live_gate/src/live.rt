@@ -4,7 +4,8 @@ ghost use Rattle.std.specs.Prelude.{◌≡◌, ◌<◌, ◌≤◌, ◌^◌, ℕ,
 ghost use Rattle.ls_base.specs.Fault.{HasCause};
 ghost use Rattle.live_gate.specs.Cause.{PassHasCause};
 ghost use Rattle.live_gate.specs.LiveRecord.{Told, Attachment, IfTold, GoesOn, is_at_rest};
-ghost use Rattle.live_gate.specs.LiveCalls.{Keeps, found_at, Attaches, Enters, MayAdvance, Advances, Leaves, GivesHead, GivesDbSize, GivesPage, GivesLogSize, Aims, Reads, Passes};
+ghost use Rattle.live_gate.specs.LiveCalls.{Keeps, found_at, Attaches, Enters, MayAdvance, Advances, Leaves, Passes};
+ghost use Rattle.live_gate.specs.LiveCalls.{GivesHead, GivesDbSize, GivesPage, GivesLogSize, Aims, Reads};
 
 use crate::answer::{Attached, Pass};
 use crate::fault::{LiveFault, PassFault};

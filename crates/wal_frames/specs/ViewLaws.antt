@@ -1,5 +1,6 @@
 -- What the view is: its length, its pages, and what it depends on.
-use Rattle.std.specs.Prelude.{◌≡◌, ◌≢◌, ℕ, ◌-◌, ◌*◌, ◌≤◌, ◌<◌, List, length, take, drop, replicate, ◌++◌, Some, None, Ok}
+use Rattle.std.specs.Prelude.{◌≡◌, ◌≢◌, ℕ, ◌-◌, ◌*◌, ◌≤◌, ◌<◌, Some, None, Ok}
+use Rattle.std.specs.Prelude.{List, length, take, drop, replicate, ◌++◌}
 use Rattle.std.specs.Simd.{first_chunks}
 use Rattle.ls_base.specs.PageSize.{IsPageSize, lock_page}
 use Rattle.ls_base.specs.State.{IsState, page_of}

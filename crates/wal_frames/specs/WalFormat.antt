@@ -1,6 +1,7 @@
 -- The write-ahead log: SQLite database file format, sections 4.1 and 4.2. All numbers are big-endian; the
 -- sums read words in the order that the magic names.
-use Rattle.std.specs.Prelude.{◌≡◌, ◌^◌, ◌<◌, ℕ, ◌+◌, ◌==◌, ◌&&◌, not, nat_lt, if◌then◌else◌, List, ◌++◌, length, take, drop, Bool, Option, Some, None, Result, Ok, Err}
+use Rattle.std.specs.Prelude.{◌≡◌, ◌^◌, ◌<◌, ℕ, ◌+◌, ◌==◌, ◌&&◌, not, nat_lt, if◌then◌else◌}
+use Rattle.std.specs.Prelude.{List, ◌++◌, length, take, drop, Bool, Option, Some, None, Result, Ok, Err}
 use Rattle.byteorder.specs.Endian.{big_number, big_bytes}
 use Rattle.ls_base.specs.PageSize.{IsPageSize, is_page_size}
 use Rattle.ls_sums.specs.declared.order.Order.{Order}

@@ -1,6 +1,7 @@
 //! The scan of a log.
 
-ghost use Rattle.std.specs.Prelude.{◌≡◌, ℕ, ◌+◌, ◌-◌, ◌<◌, ◌^◌, ◌≤◌, ◌++◌, ◌==◌, [], List, Option, Some, length, take, if◌then◌else◌, IfOk, Ok};
+ghost use Rattle.std.specs.Prelude.{◌≡◌, ℕ, ◌+◌, ◌-◌, ◌<◌, ◌^◌, ◌≤◌, ◌==◌, if◌then◌else◌, Option, Some, IfOk, Ok};
+ghost use Rattle.std.specs.Prelude.{List, [], ◌++◌, length, take};
 ghost use Rattle.wal_frames.specs.WalFormat.{read_header};
 ghost use Rattle.wal_frames.specs.WalFrame as format;
 ghost use Rattle.wal_frames.specs.Marks.{mark_with, IsMark, last_mark_of};
@@ -38,16 +39,26 @@ impl Model for Scan {
 
     ghost Value = { Scanned };
 
-    ghost view = { λ s. record { head = s.head; taken = s.taken; end = s.end; sums = s.sums; held = s.part.bytes; last = s.last; stopped = s.stopped } };
+    ghost view = { λ s. record {
+      head = s.head;
+      taken = s.taken;
+      end = s.end;
+      sums = s.sums;
+      held = s.part.bytes;
+      last = s.last;
+      stopped = s.stopped;
+    } };
 
-    ghost invariant = { λ s. (s.part.room ≡ frame_length s.head) × (length s.part.bytes < s.part.room) × (s.end + length s.part.bytes ≤ s.taken + 32) };
+    ghost invariant = { λ s. (s.part.room ≡ frame_length s.head) × (length s.part.bytes < s.part.room)
+        × (s.end + length s.part.bytes ≤ s.taken + 32) };
 }
 
 impl Scan {
     /// A scan of the log with this header, which has taken nothing behind it. Takes memory for one frame;
     /// `Memory` for want of it.
     pub fn begin(alloc: Global, head: WalHeader) -> Result<Scan, Memory>
-        ensures value { IfOk result (λ scan. (log : List ℕ) → length log ≡ 32 → read_header log ≡ Ok head → HasTaken scan log) }
+        ensures value { IfOk result (λ scan. (log : List ℕ) → length log ≡ 32 → read_header log ≡ Ok head
+            → HasTaken scan log) }
         ensures empty { IfOk result (λ scan. (scan.head ≡ head) × (scan.taken ≡ 0)) }
     {
         let part = Part::new(alloc, FRAME_HEADER_BYTES + head.size.get() as usize)?;
@@ -111,7 +122,8 @@ impl Scan {
 
     /// Goes back to a mark of the valid prefix: the bytes taken are then those before its end. Takes no memory.
     pub fn back(&mut self, to: &Mark)
-        ensures value { (log : List ℕ) → HasTaken self.old log → IsMark log to.now → HasTaken self.new (take to.now.end log) }
+        ensures value { (log : List ℕ) → HasTaken self.old log → IsMark log to.now
+            → HasTaken self.new (take to.now.end log) }
         ensures exact { self.new ≡ scanned_to self.old.head to.now }
     {
         self.part.clear();

@@ -11,4 +11,6 @@ returns-clause-told c =
     let behind = drop (length c.rest_from.result.now) c.args.into.now in
     let count = c.copy_front-count.ensures.count ∙ ap (λ (b : List ℕ). min (length b) room) rest in
     let front = c.copy_front-count.ensures.front ∙ ap (λ (b : List ℕ). take room b ++ behind) rest in
-    rw (← c.self.view_is) (goes_on _ _ _ (reads (the_view c.self.inside) c.copy_front-count.result c.saturating_add-self-inside.result room c.copy_front-count.new.into behind c.self.invariant c.requires.room count front (search rules)))
+    rw (← c.self.view_is)
+    (goes_on _ _ _ (reads (the_view c.self.inside) c.copy_front-count.result c.saturating_add-self-inside.result
+    room c.copy_front-count.new.into behind c.self.invariant c.requires.room count front (search rules)))

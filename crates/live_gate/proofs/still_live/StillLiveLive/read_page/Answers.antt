@@ -8,5 +8,9 @@ returns-clause-told c =
     let size = length c.args.into.now in
     let at = c.from.result * c.from-2.result in
     let place : at ≡ (c.args.number - 1) * c.args.size = cc in
-    let bytes = c.fill_page.ensures ∙ ap (λ (b : List ℕ). take size (b ++ replicate size 0)) (c.rest_from.ensures ∙ ap (drop at) c.as_slice.ensures) in
-    rw (← c.self.view_is) (goes_on _ _ _ (gives_page (the_view c.self.inside) c.args.size c.args.number size at c.fill_page.new.into c.requires.whole place bytes))
+    let bytes = c.fill_page.ensures ∙ ap (λ (b : List ℕ). take size (b ++ replicate size 0))
+    (c.rest_from.ensures ∙ ap (drop at) c.as_slice.ensures) in
+    rw (← c.self.view_is)
+    (goes_on _ _ _
+    (gives_page (the_view c.self.inside) c.args.size c.args.number size at c.fill_page.new.into c.requires.whole
+    place bytes))
