@@ -1,0 +1,13 @@
+pub mod MakesLemmas
+pub mod CommitLemmas
+pub mod PieceLemmas
+pub mod GoesOnLemmas
+pub mod KeptLemmas
+pub mod ReadLemmas
+pub mod GatherLemmas
+pub mod FitsLemmas
+pub mod PageLemmas
+pub mod ConfirmLemmas
+pub mod PassedLemmas
+pub mod NextLemmas
+pub mod WantedLemmas

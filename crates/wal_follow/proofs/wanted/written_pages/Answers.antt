@@ -1,0 +1,15 @@
+use Rattle.std.proofs.Common.{◌≡◌, ◌∙◌, ℕ, List, sym, ap, subst, arith, rules, length, take}
+use Rattle.std.specs.List.{filter, slice_get}
+use Rattle.std.specs.List.Sorted.{IsStrictlyIncreasing}
+use Rattle.std.specs.FinMap.{keys}
+use Rattle.ls_base.proofs.MapLemmas.{keys_increase}
+use Rattle.wal_follow.specs.WantedPages.{has_written}
+use Rattle.wal_follow.proofs.WantedLemmas.{kept_below}
+use Rattle.wal_follow.proofs.wanted.written_pages.Goals as goal
+
+pub push-requires : goal.push-requires
+push-requires c = λ k last at.
+    let i = c.loop-number.invariant in
+    kept_below _ _ c.loop-number.number-index k last (subst IsStrictlyIncreasing (sym i.0) (keys_increase _))
+    (search rules)
+    (ap (λ (l : List ℕ). slice_get l k) (sym i.1) ∙ at)

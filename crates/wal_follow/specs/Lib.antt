@@ -1,0 +1,15 @@
+pub mod Piece
+pub mod PieceLaws
+pub mod Following
+pub mod Answers
+pub mod Calls
+pub mod Asks
+pub mod Gathering
+pub mod LogReading
+pub mod WantedPages
+pub mod Kept
+pub mod PageFaults
+pub mod FollowLaws
+pub mod Steps
+pub mod Offset
+pub mod Gathers
