@@ -146,3 +146,27 @@ begins_once names t (first ∷ rest) (best, chosen) =
       })).farthest
       | inr none ↦ omega (arith, none)
     ]) chosen
+
+-- the chosen chain has come so far, and this file is its first
+pub record HasBegunWith (names : List FileName) (t : ℕ) (first : FileName) (after : ℕ) : Type 0 where
+  pub rest : List FileName
+  pub chosen : IsChosenBetween names t 0 (first ∷ rest) after
+
+pub begun : (names : List FileName) (t : ℕ) (first : FileName) → IsBestNext names t 0 first
+    → HasBegunWith names t first first.max
+begun names t first best = record { rest = []; chosen = (best, refl) }
+
+pub begun_more : (names : List FileName) (t : ℕ) (first : FileName) (after : ℕ) (name : FileName)
+    → HasBegunWith names t first after → IsBestNext names t after name → HasBegunWith names t first name.max
+begun_more names t first after name begun best = record {
+  rest = begun.rest ++ name ∷ [];
+  chosen = chosen_more names t 0 (first ∷ begun.rest) after name begun.chosen best;
+}
+
+-- where no file may come first, no chain leads to a transaction
+pub none_leads : (names : List FileName) (t : ℕ) (progress : Progress) → IsOnTheWay names t progress
+    → progress.after ≡ 0 → ((name : FileName) → MayLead progress.names progress.t progress.after name → ⊥)
+    → IsRetained names t → ⊥
+none_leads names t progress way none end kept =
+    let most = (come_to names t progress way end).others t kept (omega arith) in
+    omega (arith, most, none, kept.positive)

@@ -25,3 +25,8 @@ IsChosenBetween names t from (name ∷ chain) to =
 -- the chosen chain to t
 abbrev pub IsChosenChain : List FileName → ℕ → List FileName → Type 0
 IsChosenChain names t chain = IsChosenBetween names t 0 chain t
+
+-- the chosen chain to t begins with this file
+pub record BeginsChosenChain (names : List FileName) (t : ℕ) (first : FileName) : Type 0 where
+  pub rest : List FileName
+  pub chosen : IsChosenChain names t (first ∷ rest)

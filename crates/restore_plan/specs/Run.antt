@@ -1,5 +1,6 @@
 -- The names of one level, taken in from the front as far as they may come next.
-use Rattle.std.specs.Prelude.{◌≡◌, ℕ, ◌+◌, ◌<◌, ◌≤◌, List, [], ◌∷◌, length, slice_index, slice_index_or, IfSome, IsSomeAnd, Option}
+use Rattle.std.specs.Prelude.{◌≡◌, ℕ, ◌+◌, ◌<◌, ◌≤◌, Option, IfSome, IsSomeAnd}
+use Rattle.std.specs.Prelude.{List, [], ◌∷◌, length, slice_index, slice_index_or}
 use Rattle.std.specs.List.{Contains, All}
 use Rattle.replica_store.specs.declared.file_name.FileName.{FileName}
 use Rattle.restore_plan.specs.Choice.{IsAsGood}

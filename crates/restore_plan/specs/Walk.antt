@@ -1,5 +1,6 @@
 -- Names that are walked by their ends, each level's in its turn.
-use Rattle.std.specs.Prelude.{◌≡◌, ◌≢◌, ℕ, ◌<◌, ◌≤◌, List, length, slice_get, slice_index, slice_index_or, Option, Some, IsSomeAnd}
+use Rattle.std.specs.Prelude.{◌≡◌, ◌≢◌, ℕ, ◌<◌, ◌≤◌, Option, Some, IsSomeAnd}
+use Rattle.std.specs.Prelude.{List, length, slice_get, slice_index, slice_index_or}
 use Rattle.std.specs.List.{Contains, All}
 use Rattle.replica_store.specs.declared.file_name.FileName.{FileName}
 use Rattle.replica_store.specs.Chain.{MayComeNext}

@@ -42,9 +42,11 @@ pub fn plan(alloc: Global, names: &[FileName], t: Txid) -> Result<FileNames, Pla
     ensures chosen { IfOk result (λ chain. IsChosenChain names.now t chain) }
     ensures chain { IfOk result (λ chain. IsChain names.now t chain) }
     ensures once { IfOk result BeginsOnce }
-    ensures fewest { IfOk result (λ chain. (other : List FileName) → IsChain names.now t other → length chain ≤ length other) }
+    ensures fewest { IfOk result (λ chain. (other : List FileName) → IsChain names.now t other
+        → length chain ≤ length other) }
     ensures missing { (after : ℕ) → IsErrOf result (PlanFault.MissingRange after) → IsRetained names.now t → ⊥ }
-    ensures after { (after : ℕ) → IsErrOf result (PlanFault.MissingRange after) → IsGreatestRetainedBelow names.now t after }
+    ensures after { (after : ℕ) → IsErrOf result (PlanFault.MissingRange after)
+        → IsGreatestRetainedBelow names.now t after }
 {
     let names = Listing::of_names(names);
     let mut sweep = Sweep::new(&names, t.number());

@@ -7,6 +7,7 @@
 //! Stands on `ls_base` and `replica_store`, whose `specs/Chain.antt` says what a chain is.
 #![tactic(auto)]
 
+mod beginning;
 mod chain;
 mod choice;
 mod listing;
@@ -19,6 +20,7 @@ mod sweep;
 mod tests;
 mod walk;
 
+pub use beginning::first_of_plan;
 pub use chain::{PlanFault, plan};
 pub use moment::last_at;
 pub use reach::retained;

@@ -37,7 +37,8 @@ fn is_early(dated: &[Dated], t: Txid, moment: u64) -> bool
 fn greatest_end(dated: &[Dated], moment: u64, bound: u64) -> u64
     ensures within { result ≤ bound }
     ensures fits { (name : Dated) → Contains dated.now name → name.name.max < 2 ^ 64 }
-    ensures greatest { (name : Dated) → Contains dated.now name → name.moment ≤ moment → name.name.max ≤ bound → name.name.max ≤ result }
+    ensures greatest { (name : Dated) → Contains dated.now name → name.moment ≤ moment → name.name.max ≤ bound
+        → name.name.max ≤ result }
 {
     let mut greatest = 0;
     for name in dated {

@@ -55,7 +55,8 @@ impl Run {
 
     /// Whether the name stands behind those that begin at most one past the transaction `after`.
     fn is_before(&self, name: &FileName, after: u64) -> bool
-        ensures { IsTrue result ↔ ((self.now.level < name.now.level) ⊎ ((name.now.level ≡ self.now.level) × (after + 1 < name.now.min))) }
+        ensures { IsTrue result ↔ ((self.now.level < name.now.level)
+            ⊎ ((name.now.level ≡ self.now.level) × (after + 1 < name.now.min))) }
     {
         if name.level != self.level {
             return name.level > self.level;

@@ -34,7 +34,8 @@ impl<'a> Model for Sweep<'a> {
 
     ghost view = { λ sweep. record { names = sweep.names.now; t = sweep.t; after = sweep.after } };
 
-    ghost invariant = { λ sweep. IsListOrdered sweep.names.now × AreRuns sweep.names.now sweep.t sweep.after sweep.runs };
+    ghost invariant = { λ sweep.
+        IsListOrdered sweep.names.now × AreRuns sweep.names.now sweep.t sweep.after sweep.runs };
 }
 
 impl<'a> Sweep<'a> {

@@ -34,7 +34,8 @@ impl Walk {
         ensures level { self.new.level ≡ self.old.level }
         ensures walk { IsWalk names.now after self.new }
         ensures found { IfSome result (StandsAt names.now after self.new) }
-        ensures none { IfNone result ((name : FileName) → Contains names.now name → name.level ≡ self.old.level → name.max ≤ after) }
+        ensures none { IfNone result ((name : FileName) → Contains names.now name → name.level ≡ self.old.level
+            → name.max ≤ after) }
     {
         while self.at < names.len() {
             let name = names.get(self.at)?;
@@ -57,7 +58,8 @@ impl Walk {
         ensures level { self.new.level ≡ self.old.level }
         ensures walk { IsWalk names.now after self.new }
         ensures end { IfSome result (IsEndOfNext names.now after) }
-        ensures least { (name : FileName) → Contains names.now name → name.level ≡ self.old.level → MayComeNext after name → IsNoLater result name.max }
+        ensures least { (name : FileName) → Contains names.now name → name.level ≡ self.old.level
+            → MayComeNext after name → IsNoLater result name.max }
     {
         let name = self.first_beyond(names, after)?;
         if name.min.number() - 1 > after {
@@ -74,7 +76,8 @@ impl Walk {
         ensures level { self.new.level ≡ self.old.level }
         ensures walk { IsWalk names.now (t - 1) self.new }
         ensures found { IsTrue result → StandsAtFirst names.now t self.new }
-        ensures none { IsFalse result → (name : FileName) → Contains names.now name → name.level ≡ self.old.level → name.max ≢ t }
+        ensures none { IsFalse result → (name : FileName) → Contains names.now name → name.level ≡ self.old.level
+            → name.max ≢ t }
     {
         let Some(name) = self.first_beyond(names, t.number() - 1) else {
             return false;

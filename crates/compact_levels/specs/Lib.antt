@@ -1,0 +1,4 @@
+pub mod Level
+pub mod Run
+pub mod Due
+pub mod Pile
