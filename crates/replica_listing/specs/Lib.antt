@@ -1,0 +1,4 @@
+pub mod Digits
+pub mod MomentText
+pub mod Listing
+pub mod Printing
