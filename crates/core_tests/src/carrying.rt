@@ -18,7 +18,20 @@ fn words_of(alloc: Global, line: &str) -> Result<Words, Memory> {
     Ok(words)
 }
 
-/// What the command of the line ends with, over these disks and this output.
+/// What the command of the line ends with, over these disks and these outputs.
+pub fn carried_out_telling(
+    alloc: Global,
+    line: &str,
+    store: &mut MemDisk,
+    target: &mut MemDisk,
+    out: &mut MemOut,
+    err: &mut MemOut,
+) -> Result<Outcome, Memory> {
+    let words = words_of(alloc, line)?;
+    Ok(litestream(alloc, &words, store, target, out, err))
+}
+
+/// The same where nobody looks at what is said.
 pub fn carried_out(
     alloc: Global,
     line: &str,
@@ -26,7 +39,6 @@ pub fn carried_out(
     target: &mut MemDisk,
     out: &mut MemOut,
 ) -> Result<Outcome, Memory> {
-    let words = words_of(alloc, line)?;
     let mut err = MemOut::new(alloc);
-    Ok(litestream(alloc, &words, store, target, out, &mut err))
+    carried_out_telling(alloc, line, store, target, out, &mut err)
 }

@@ -22,3 +22,5 @@ mod files;
 mod rows;
 #[cfg(test)]
 mod stops;
+#[cfg(test)]
+mod told;

@@ -307,7 +307,7 @@ pub const MOMENTS: [Row; 8] = [
     },
 ];
 
-/// Words that are none, and commands that aren't built.
+/// Words that are none, a listing, and commands that aren't built.
 pub const WORDS: [Row; 6] = [
     Row {
         line: "restore -o",
@@ -358,9 +358,10 @@ pub const WORDS: [Row; 6] = [
         line: "ltx r",
         replica: Replica::Whole,
         there: &[],
-        why: Why::NotBuilt,
-        status: 2,
-        text: "",
+        why: Why::Done,
+        status: 0,
+        text: "level min_txid max_txid size created\n\
+9 0000000000000001 0000000000000001 1158 2023-11-14T22:13:20.000Z\n",
         left: &[],
     },
     Row {

@@ -1,5 +1,5 @@
 -- From the steps of a restore to what its answers mean.
-use Rattle.std.proofs.Common.{◌≡◌, ℕ, ◌≤◌, List, [], length, Option, Some, None, refl, sym, ap, subst, ◌∙◌, inl, inr, arith}
+use Rattle.std.proofs.Common.{◌≡◌, ℕ, ◌≤◌, List, refl, ap, subst, ◌∙◌, inr, arith}
 use Rattle.std.specs.Prelude.{Result, Ok, Err, OnOk, IfErr}
 use Rattle.ls_base.specs.Fault.{Rose}
 use Rattle.crash_disk.specs.Told.{Told, IfTold}
@@ -10,8 +10,8 @@ use Rattle.restore_apply.specs.declared.restored.Restored.{Restored}
 use Rattle.restore_apply.specs.declared.restored.RestoreFault.{RestoreFault}
 use Rattle.restore_apply.specs.declared.restored.RestoreFault.TheVariants as fault
 use Rattle.restore_apply.specs.Restoring.{Restores as Applies, ExplainsRestore}
-use Rattle.litestream_core.specs.declared.outcome.Why.{Why}
-use Rattle.litestream_core.specs.declared.outcome.Why.TheVariants.{Done, SkippedOutput, SkippedReplica, NotBuilt, Usage, NoReplica, MissingRange, NoMoment, Damaged, PageMissing, OutputExists, StoreFault, TargetFault, SinkFault, Memory}
+use Rattle.ls_answers.specs.declared.outcome.Why.{Why}
+use Rattle.ls_answers.specs.declared.outcome.Why.TheVariants.{Done, SinkFault}
 use Rattle.replica_store.specs.Chain.{IsRetained}
 use Rattle.restore_plan.specs.declared.chain.PlanFault.{PlanFault}
 use Rattle.restore_plan.specs.declared.chain.PlanFault.TheVariants as plan

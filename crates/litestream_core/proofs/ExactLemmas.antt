@@ -1,11 +1,11 @@
 -- Where the condition of an answer holds and no count rose, no other answer is left but want of memory.
-use Rattle.std.proofs.Common.{◌≡◌, ℕ, List, [], ◌∷◌, length, Bool, true, false, Option, Some, None, refl, sym, ap, subst, ◌∙◌, inl, inr, arith}
-use Rattle.std.specs.Prelude.{◌⊎◌, option_map, IsSome, is_some, ℤ, pos}
+use Rattle.std.proofs.Common.{◌≡◌, ℕ, List, [], ◌∷◌, length, Bool, true, false, Option, Some, None, refl, ap, subst, inl, inr, arith}
+use Rattle.std.specs.Prelude.{◌⊎◌, option_map, IsSome, ℤ, pos}
 use Rattle.std.specs.List.{Contains}
 use Rattle.crash_disk.specs.declared.event.Event.{Event}
-use Rattle.crash_disk.specs.Files.{Files, file_at, size_of, files_after}
+use Rattle.crash_disk.specs.Files.{Files, files_after}
 use Rattle.ls_words.specs.declared.command.Target.{Target}
-use Rattle.ls_words.specs.declared.command.Target.TheVariants.{Newest, At, Moment}
+use Rattle.ls_words.specs.declared.command.Target.TheVariants.{Moment}
 use Rattle.replica_store.specs.declared.error.Damage.{Damage}
 use Rattle.replica_store.specs.declared.file_name.FileName.{FileName}
 use Rattle.replica_store.specs.declared.dated_names.Dated.{Dated}
@@ -14,8 +14,8 @@ use Rattle.replica_store.specs.Listing.{AreListed, path_of, paths_of}
 use Rattle.ls_base.specs.Fault.{Rose}
 use Rattle.ls_base.specs.State.{State}
 use Rattle.restore_apply.specs.Restoring.{Makes, IsFirstDamaged, IsFirstMissing}
-use Rattle.litestream_core.specs.declared.outcome.Why.{Why}
-use Rattle.litestream_core.specs.declared.outcome.Why.TheVariants.{Done, SkippedOutput, SkippedReplica, NotBuilt, Usage, NoReplica, MissingRange, NoMoment, Damaged, PageMissing, OutputExists, StoreFault, TargetFault, SinkFault, Memory}
+use Rattle.ls_answers.specs.declared.outcome.Why.{Why}
+use Rattle.ls_answers.specs.declared.outcome.Why.TheVariants.{Done, SkippedOutput, SkippedReplica, NotBuilt, Usage, NoReplica, MissingRange, NoMoment, Damaged, PageMissing, OutputExists, StoreFault, TargetFault, SinkFault, Memory}
 use Rattle.litestream_core.specs.Asked.{AreNames, IsAsked, IsOfMoment, IsPlan, IsMissing, IsBefore, IsBadHeader, LacksMoment}
 use Rattle.litestream_core.specs.Command.{Explains, NotRisen}
 use Rattle.litestream_core.specs.Exact.{IsFree, IsTaken, HeadersAreGood, HasABadHeader, IsInTime, HasNoneOf, HasNoChain, MayBePlanned, PlanIsDamaged, PlanLacksPage, PlanMakesState, ComesExactly}

@@ -1,11 +1,8 @@
 -- A file whose header was read for its moment isn't the first with a bad header.
-use Rattle.std.proofs.Common.{◌≡◌, ◌≢◌, ℕ, List, [], ◌∷◌, ◌++◌, map, take, Option, Some, None, Ok, refl, sym, ap, subst, ◌∙◌, ⊎_elim}
-use Rattle.std.proofs.lemmas.List.{append-nil}
+use Rattle.std.proofs.Common.{◌≡◌, List, [], ◌∷◌, ◌++◌, Option, Some, None, ap, subst, ◌∙◌, ⊎_elim}
 use Rattle.crash_disk.specs.Files.{Files}
 use Rattle.ltx_format.specs.declared.fault.LtxFault.{LtxFault}
 use Rattle.ltx_format.specs.declared.header.LtxHeader.{LtxHeader}
-use Rattle.ltx_format.specs.FirstFault.{header_fault}
-use Rattle.ltx_format.specs.LtxFormat.{HasHeader, header_bytes}
 use Rattle.replica_store.specs.declared.dated_names.Dated.{Dated}
 use Rattle.replica_store.specs.declared.error.Damage.{Damage}
 use Rattle.replica_store.specs.declared.error.Damage.TheVariants.{File, NameDiffers, SizeDiffers}

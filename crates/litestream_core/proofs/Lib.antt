@@ -5,3 +5,4 @@ pub mod CommandLemmas
 pub mod HeaderLemmas
 pub mod ExactLemmas
 pub mod Theorems
+pub mod CarriesLemmas

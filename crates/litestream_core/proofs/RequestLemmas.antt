@@ -1,15 +1,12 @@
 -- Texts cut at their last `/`.
-use Rattle.std.proofs.Common.{◌≡◌, ◌≢◌, ℕ, zero, suc, ◌+◌, ◌<◌, ◌≤◌, Bool, true, false, cond, ◌||◌, eqb, List, [], ◌∷◌, ◌++◌, length, get_or, take, drop, Option, Some, None, refl, sym, ap, subst, ◌∙◌, inl, inr, ⊎_elim, arith, Bor}
-use Rattle.std.specs.Prelude.{MatchOption, nat_eq, codes}
-use Rattle.std.specs.List.{starts_with}
+use Rattle.std.proofs.Common.{◌≡◌, ◌≢◌, ℕ, suc, ◌<◌, true, false, eqb, List, [], ◌∷◌, ◌++◌, length, get_or, take, drop, Option, Some, None, refl, sym, ap, ◌∙◌, arith, Bor}
+use Rattle.std.specs.Prelude.{MatchOption, codes}
 use Rattle.std.specs.Str.{NoCharPasses}
-use Rattle.std.specs.Str.Iter.{HasSubslice}
 use Rattle.std.specs.Str.Pattern.{RFindsChar, SplitsAroundMatch}
-use Rattle.std.proofs.lemmas.Bool.{ne_eqb, or_cases, or_right}
+use Rattle.std.proofs.lemmas.Bool.{ne_eqb}
 use Rattle.std.proofs.lemmas.List.{take-append-drop}
 use Rattle.std.proofs.lemmas.Str.Pattern.{NoCharPasses-char, drop_at_char}
-use Rattle.std.proofs.lemmas.Slice.Eq.{bytes_eq-Decides}
-use Rattle.ls_words.specs.Path.{placed, Output, last_cut, cut_at_last_slash}
+use Rattle.ls_words.specs.Path.{placed, last_cut, cut_at_last_slash}
 
 LacksSlash : List ℕ → Type 0
 LacksSlash bs = (i : ℕ) → i < length bs → get_or bs i 0 ≢ 47

@@ -1,5 +1,5 @@
 -- The promise of a restore.
-use Rattle.std.proofs.Common.{◌≡◌, ℕ, ◌+◌, ◌≤◌, arith, List, length, drop, IfSome, Option, Some, None, refl, sym, ap, subst, ◌∙◌, inl, inr}
+use Rattle.std.proofs.Common.{◌≡◌, ℕ, arith, List, length, drop, IfSome, Option, Some, None, sym, ap, subst, ◌∙◌, inl, inr}
 use Rattle.std.specs.FinMap.{get}
 use Rattle.crash_disk.specs.declared.event.Event.{Event}
 use Rattle.crash_disk.specs.Files.{files_after}
@@ -13,12 +13,12 @@ use Rattle.replica_store.specs.Faithful.{IsFaithful}
 use Rattle.restore_apply.specs.Restoring.{Makes}
 use Rattle.restore_apply.specs.Staging.{WritesFile, MayWriteFile}
 use Rattle.crash_disk.specs.Stop.{LeavesNothing, LeavesAtMost}
-use Rattle.litestream_core.specs.declared.outcome.Why.{Why}
-use Rattle.litestream_core.specs.declared.outcome.Why.TheVariants.{Done, SkippedOutput, SkippedReplica, NotBuilt, Usage, NoReplica, MissingRange, NoMoment, Damaged, PageMissing, OutputExists, StoreFault, TargetFault, SinkFault, Memory}
+use Rattle.ls_answers.specs.declared.outcome.Why.{Why}
+use Rattle.ls_answers.specs.declared.outcome.Why.TheVariants.{Done, SkippedOutput, SkippedReplica, NotBuilt, Usage, NoReplica, MissingRange, NoMoment, Damaged, PageMissing, OutputExists, StoreFault, TargetFault, SinkFault, Memory}
 use Rattle.litestream_core.specs.Asked.{IsPlan}
-use Rattle.litestream_core.specs.Command.{ForRequest, Explains, Restored, KeepsPromise, IsRecorded, SurvivesAnyStop}
+use Rattle.litestream_core.specs.Command.{Explains, KeepsPromise, IsRecorded, SurvivesAnyStop}
 use Rattle.litestream_core.specs.Laws.{Laws}
-use Rattle.litestream_core.specs.Request.{Request, request_of}
+use Rattle.litestream_core.specs.Request.{Request}
 use Rattle.litestream_core.specs.Scene.{Scene}
 use Rattle.litestream_core.proofs.PlanLemmas.{plan_recorded}
 
@@ -111,10 +111,3 @@ module _ (laws : Laws) (r : Request) (scene : Scene) (history : History) (log : 
 
 pub survives_any_stop : Laws → (r : Request) (scene : Scene) (why : Why) → Explains r scene why → SurvivesAnyStop r scene
 survives_any_stop laws r scene why explains history log store before after told faithful told_before told_after nothing = stop_of laws r scene history log store before after told faithful told_before told_after nothing why explains
-
-same_request : (a b : Request) → ◌≡◌ {A = Option Request} (Some a) (Some b) → a ≡ b
-same_request a b e = cc
-
--- what holds of the request that was read holds of the request that the words make
-pub for_request : (words : List (List ℕ)) (read : Request) (P : Request → Type 0) → request_of words ≡ Some read → P read → ForRequest words P
-for_request words read P is holds r e = subst P (same_request read r (sym is ∙ e)) holds

@@ -1,6 +1,5 @@
 -- What the answers of a restore mean, and what stands after them.
-use Rattle.std.specs.Prelude.{◌≡◌, ◌≢◌, ℕ, List, [], Bool, true, false, Option, Some, None, IsSome, Result, Ok, Err, ◌⊎◌, length, IfSome}
-use Rattle.std.specs.FinMap.{get}
+use Rattle.std.specs.Prelude.{◌≡◌, ℕ, List, [], true, false, Some, None, IsSome, Result, Ok, Err, ◌⊎◌, length}
 use Rattle.crash_disk.specs.declared.event.Event.{Event}
 use Rattle.ls_base.specs.Fault.{Rose}
 use Rattle.crash_disk.specs.GoesOn.{GoesOn}
@@ -17,11 +16,11 @@ use Rattle.replica_store.specs.Listing.{AreListed}
 use Rattle.restore_apply.specs.Restoring.{Makes, IsFirstDamaged, IsFirstMissing}
 use Rattle.restore_apply.specs.Staging.{WritesFile, MayWriteFile}
 use Rattle.crash_disk.specs.Stop.{LeavesNothing, LeavesAtMost}
-use Rattle.litestream_core.specs.declared.outcome.Why.{Why}
-use Rattle.litestream_core.specs.declared.outcome.Why.TheVariants.{Done, SkippedOutput, SkippedReplica, NotBuilt, Usage, NoReplica, MissingRange, NoMoment, Damaged, PageMissing, OutputExists, StoreFault, TargetFault, SinkFault, Memory}
-use Rattle.litestream_core.specs.Asked.{AreNames, IsAsked, IsPlan, IsMissing, IsBefore, IsBadHeader, LacksMoment, IsTooEarly}
+use Rattle.ls_answers.specs.declared.outcome.Why.{Why}
+use Rattle.ls_answers.specs.declared.outcome.Why.TheVariants.{Done, SkippedOutput, SkippedReplica, NotBuilt, Usage, NoReplica, MissingRange, NoMoment, Damaged, PageMissing, OutputExists, StoreFault, TargetFault, SinkFault, Memory}
+use Rattle.litestream_core.specs.Asked.{AreNames, IsAsked, IsPlan, IsMissing, IsBefore, IsBadHeader}
 use Rattle.litestream_core.specs.Line.{restored_text}
-use Rattle.litestream_core.specs.Request.{Request, request_of}
+use Rattle.litestream_core.specs.Request.{Request}
 use Rattle.litestream_core.specs.Scene.{Scene}
 
 -- why a restore that returned this ended
@@ -122,10 +121,6 @@ Explains r scene SinkFault =
 Explains r scene Memory = WritesNothing scene
 Explains r scene NotBuilt = ⊥
 Explains r scene (Usage usage) = ⊥
-
--- of the request that the words make, if they make one
-abbrev pub ForRequest : List (List ℕ) → (Request → Type 0) → Type 0
-ForRequest words P = (r : Request) → request_of words ≡ Some r → P r
 
 -- The promise, for each history and sync log to which the store is faithful: what is written is the state that the
 -- log records for the transaction that is asked for, and the line says how many pages it has.

@@ -14,8 +14,8 @@ use Rattle.replica_store.specs.Faithful.{IsFaithful}
 use Rattle.replica_store.specs.Listing.{AreListed}
 use Rattle.ls_base.specs.State.{State}
 use Rattle.restore_apply.specs.Restoring.{Makes, IsFirstDamaged, IsFirstMissing}
-use Rattle.litestream_core.specs.declared.outcome.Why.{Why}
-use Rattle.litestream_core.specs.declared.outcome.Why.TheVariants.{Done, SkippedOutput, SkippedReplica, NoReplica, MissingRange, NoMoment, Damaged, PageMissing, OutputExists, Memory}
+use Rattle.ls_answers.specs.declared.outcome.Why.{Why}
+use Rattle.ls_answers.specs.declared.outcome.Why.TheVariants.{Done, SkippedOutput, SkippedReplica, NoReplica, MissingRange, NoMoment, Damaged, PageMissing, OutputExists, Memory}
 use Rattle.litestream_core.specs.Asked.{AreNames, IsAsked, IsOfMoment, LacksMoment, HasBadHeader, IsPlan, IsMissing}
 use Rattle.litestream_core.specs.Command.{NotRisen}
 use Rattle.litestream_core.specs.Request.{Request}

@@ -1,5 +1,4 @@
 pub mod Scene
-pub mod Outcome
 pub mod Request
 pub mod RequestView
 pub mod Line
@@ -8,3 +7,5 @@ pub mod Command
 pub mod Exact
 pub mod Preparing
 pub mod Laws
+pub mod Listing
+pub mod Carries

@@ -1,5 +1,5 @@
 -- What the objects of a call tell, before it and after it.
-use Rattle.std.specs.Prelude.{◌≡◌, ℕ, ◌≤◌, List, Option}
+use Rattle.std.specs.Prelude.{ℕ, ◌≤◌, List, Option}
 use Rattle.crash_disk.specs.declared.disk.Disk.{Ghosts as OfDisk}
 use Rattle.crash_disk.specs.declared.out.Out.{Ghosts as OfOut}
 use Rattle.crash_disk.specs.Told.{Told}

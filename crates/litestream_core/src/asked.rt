@@ -7,9 +7,9 @@ ghost use Rattle.litestream_core.specs.Command.{IfFilesTold};
 ghost use Rattle.litestream_core.specs.Preparing.{why_of_error, ExplainsMoment, ExplainsReading};
 ghost use Rattle.litestream_core.specs.RequestView.{as_request};
 
-use crate::outcome::Why;
 use crate::request::Request;
 use crash_disk::Disk;
+use ls_answers::Why;
 use ls_base::Txid;
 use ls_words::Target;
 use replica_store::{FileName, StoreError, dated};
@@ -49,8 +49,10 @@ fn at_moment<S: Disk>(
     moment: i64,
 ) -> Result<Txid, Why>
     requires in_order { IsListOrdered names.now }
-    ensures of_moment { IfOk result (λ t. IfFilesTold (S.told store.old) (λ files. IsOfMoment files names.now moment t)) }
-    ensures explained { IfErr result (ExplainsMoment (S.told store.old) (S.fault_count store.old) (S.fault_count store.new) names.now moment) }
+    ensures of_moment { IfOk result (λ t. IfFilesTold (S.told store.old)
+        (λ files. IsOfMoment files names.now moment t)) }
+    ensures explained { IfErr result (ExplainsMoment (S.told store.old) (S.fault_count store.old)
+        (S.fault_count store.new) names.now moment) }
     ensures unchanged { S.told store.new ≡ S.told store.old }
     ensures same_folder { S.folder store.new ≡ S.folder store.old }
     ensures later { S.fault_count store.old ≤ S.fault_count store.new }
@@ -75,8 +77,10 @@ pub fn asked<S: Disk>(
     requires some { names.now ≢ [] }
     requires in_order { IsListOrdered names.now }
     requires names { IfFilesTold (S.told store.old) (λ files. AreNames files names.now) }
-    ensures asked { IfOk result (λ t. IfFilesTold (S.told store.old) (λ files. IsAsked files names.now request.now.target t)) }
-    ensures explained { IfErr result (ExplainsReading (as_request request.now) (S.told store.old) (S.fault_count store.old) (S.fault_count store.new)) }
+    ensures asked { IfOk result (λ t. IfFilesTold (S.told store.old)
+        (λ files. IsAsked files names.now request.now.target t)) }
+    ensures explained { IfErr result (ExplainsReading (as_request request.now) (S.told store.old)
+        (S.fault_count store.old) (S.fault_count store.new)) }
     ensures unchanged { S.told store.new ≡ S.told store.old }
     ensures same_folder { S.folder store.new ≡ S.folder store.old }
     ensures later { S.fault_count store.old ≤ S.fault_count store.new }

@@ -1,26 +1,27 @@
 //! Carrying out a command.
 
-ghost use Rattle.std.specs.Prelude.{◌≡◌, ◌⊎◌, [], ℕ, Some, None, Ok, Err, OnOk, IfErr};
-ghost use Rattle.ls_words.specs.declared.command.Command.{Command};
-ghost use Rattle.ls_words.specs.declared.usage.Usage.{Usage};
+ghost use Rattle.std.specs.Prelude.{◌≡◌, None, OnOk, IfErr};
+ghost use Rattle.ls_answers.specs.declared.outcome.Why.TheVariants.{Done};
+ghost use Rattle.ls_answers.specs.Outcome.{status_of};
+ghost use Rattle.ls_answers.specs.Refusal.{refusal_text, said_text};
+ghost use Rattle.ls_answers.specs.Saying.{HasTaken};
 ghost use Rattle.ls_words.specs.Command.{command_of};
-ghost use Rattle.litestream_core.specs.declared.outcome.Why.TheVariants.{Done, NotBuilt, Memory, Usage as of_usage};
 ghost use Rattle.litestream_core.specs.Asked.{AreAttached};
-ghost use Rattle.litestream_core.specs.Command.{Explains, ForRequest, KeepsPromise, SurvivesAnyStop, why_of};
-ghost use Rattle.litestream_core.specs.Exact.{ComesExactly};
+ghost use Rattle.litestream_core.specs.Carries.{Carries};
+ghost use Rattle.litestream_core.specs.Command.{Explains, why_of};
 ghost use Rattle.litestream_core.specs.Preparing.{why_of_fault};
-ghost use Rattle.litestream_core.specs.Outcome.{status_of};
-ghost use Rattle.litestream_core.specs.Request.{request_in, request_of};
 ghost use Rattle.litestream_core.specs.RequestView.{as_request};
 ghost use Rattle.litestream_core.specs.Scene.{scene_of, FaultsStay};
 
 use crate::law::laws;
 use crate::line::restored_line;
-use crate::outcome::{Outcome, Why};
+use crate::listing::listed_in;
 use crate::prepare::prepare;
 use crate::request::{Request, request_in};
 use crash_disk::{Disk, Out};
+use ls_answers::{Outcome, Why, say};
 use ls_words::{Words, WordsFault, read_words};
+use ltx_command::list_replica;
 use restore_apply::RestoreFault;
 use std::alloc::Global;
 
@@ -43,11 +44,13 @@ fn restore<S: Disk, T: Disk, O: Out>(
     target: &mut T,
     out: &mut O,
 ) -> Result<(), Why>
-    ensures explained { Explains (as_request request.now) (scene_of S.Disk T.Disk O.Out (as_request request.now) store.old store.new target.old target.new out.old out.new) (why_of result) }
+    ensures explained { Explains (as_request request.now) (scene_of S.Disk T.Disk O.Out
+        (as_request request.now) store.old store.new target.old target.new out.old out.new) (why_of result) }
     ensures not_done { IfErr result (λ why. why ≡ Done → ⊥) }
     ensures attached { OnOk result (AreAttached (as_request request.now) (S.folder store.new) (T.folder target.new)) }
     ensures store_unchanged { S.content store.new request.now.replica.now ≡ S.content store.old request.now.replica.now }
-    ensures later { FaultsStay (scene_of S.Disk T.Disk O.Out (as_request request.now) store.old store.new target.old target.new out.old out.new) }
+    ensures later { FaultsStay (scene_of S.Disk T.Disk O.Out
+        (as_request request.now) store.old store.new target.old target.new out.old out.new) }
 {
     let ready = prepare(alloc, request, store, target)?;
     let plan = ready.plan.as_slice();
@@ -72,7 +75,33 @@ fn cause_of(ended: Result<(), Why>) -> Why
     }
 }
 
-/// Carries out the command that the words are, and answers how it ended.
+/// Carries the command out, and answers how it ended.
+fn carry_out<S: Disk, T: Disk, O: Out>(
+    alloc: Global,
+    words: &Words,
+    store: &mut S,
+    target: &mut T,
+    out: &mut O,
+) -> Why
+    ensures { Carries S.Disk T.Disk O.Out (command_of words.now) store.old store.new target.old target.new
+        out.old out.new result }
+{
+    laws();
+    let command = match read_words(alloc, words) {
+        Ok(command) => command,
+        Err(WordsFault::Usage(usage)) => return Why::Usage(usage),
+        Err(WordsFault::Memory) => return Why::Memory,
+    };
+    if let Some(request) = request_in(&command) {
+        return cause_of(restore(alloc, &request, store, target, out));
+    }
+    if let Some(replica) = listed_in(&command) {
+        return list_replica(alloc, replica, store, out);
+    }
+    Why::NotBuilt
+}
+
+/// Carries out the command that the words are, answers how it ended, and says to `err` why it was refused.
 ///
 /// `restore` writes the database as of a transaction from the replica's files: as of the one that the words
 /// name, or the newest, or the last that was retained at or before a moment. It takes the chain of files that
@@ -80,7 +109,13 @@ fn cause_of(ended: Result<(), Why>) -> Why
 /// behind it. It brings that file to the disk, gives it the output's name and brings the names to the disk, so
 /// that under the output's name stands the whole database or nothing. Then it prints
 /// `restored <T in 16 digits> pages <N>` to `out`. `store` is attached to the replica's folder and `target` to
-/// the output's. The other commands aren't built yet. Nothing is written to `err` yet.
+/// the output's.
+///
+/// `ltx` prints the listing of the replica's files to `out`. `store` is attached to the replica's folder, and no
+/// file is changed.
+///
+/// The other commands aren't built yet, and are refused as such. A refusal puts one line to `err`, with what was
+/// refused and where; a fault of `err` changes no answer.
 pub fn litestream<S: Disk, T: Disk, O: Out>(
     alloc: Global,
     words: &Words,
@@ -89,33 +124,16 @@ pub fn litestream<S: Disk, T: Disk, O: Out>(
     out: &mut O,
     err: &mut O,
 ) -> Outcome
-    // The words, and the exit status.
-    ensures usage { (usage : Usage) → result.why ≡ of_usage usage → command_of words.now ≡ Err usage }
-    ensures bad_words { (usage : Usage) → command_of words.now ≡ Err usage → (result.why ≡ of_usage usage) ⊎ (result.why ≡ Memory) }
-    ensures not_built { (command : Command) → command_of words.now ≡ Ok command → request_in command ≡ None → (result.why ≡ NotBuilt) ⊎ (result.why ≡ Memory) }
-    ensures no_request { request_of words.now ≡ None → (store.new ≡ store.old) × (target.new ≡ target.old) × (out.new ≡ out.old) }
     ensures status { result.status ≡ status_of result.why }
-
-    // What each answer means, when it comes, and what is promised of it.
-    ensures explained { ForRequest words.now (λ r. Explains r (scene_of S.Disk T.Disk O.Out r store.old store.new target.old target.new out.old out.new) result.why) }
-    ensures exact { ForRequest words.now (λ r. ComesExactly r (scene_of S.Disk T.Disk O.Out r store.old store.new target.old target.new out.old out.new) result.why) }
-    ensures promise { ForRequest words.now (λ r. KeepsPromise r (scene_of S.Disk T.Disk O.Out r store.old store.new target.old target.new out.old out.new) result.why) }
-    ensures attached { ForRequest words.now (λ r. result.why ≡ Done → AreAttached r (S.folder store.new) (T.folder target.new)) }
-    ensures at_any_stop { ForRequest words.now (λ r. SurvivesAnyStop r (scene_of S.Disk T.Disk O.Out r store.old store.new target.old target.new out.old out.new)) }
-
-    ensures store_unchanged { ForRequest words.now (λ r. S.content store.new r.replica ≡ S.content store.old r.replica) }
-    ensures err_unchanged { err.new ≡ err.old }
-    ensures faults { ForRequest words.now (λ r. FaultsStay (scene_of S.Disk T.Disk O.Out r store.old store.new target.old target.new out.old out.new)) }
+    // What the answer means, when it comes, what is promised of it, and what stays, by the command.
+    ensures carried_out { Carries S.Disk T.Disk O.Out (command_of words.now) store.old store.new target.old target.new
+        out.old out.new result.why }
+    // What is said: a refusal's line and nothing else.
+    ensures said { HasTaken (O.text err.old) (O.text err.new) (O.fault_count err.old) (O.fault_count err.new)
+        (said_text words.now result.why) }
+    ensures silent { refusal_text words.now result.why ≡ None → err.new ≡ err.old }
 {
-    let command = match read_words(alloc, words) {
-        Ok(command) => command,
-        Err(WordsFault::Usage(usage)) => return Outcome::of(Why::Usage(usage)),
-        Err(WordsFault::Memory) => return Outcome::of(Why::Memory),
-    };
-    let Some(request) = request_in(&command) else {
-        return Outcome::of(Why::NotBuilt);
-    };
-    laws();
-    let ended = restore(alloc, &request, store, target, out);
-    Outcome::of(cause_of(ended))
+    let why = carry_out(alloc, words, store, target, out);
+    say(err, words, &why);
+    Outcome::of(why)
 }

@@ -3,21 +3,21 @@
 //!
 //! To `main` it promises: what a restore writes is what the database had at the transaction that is asked for,
 //! where the replica's files tell the truth; a crash leaves that under the output's name or nothing, where none
-//! could have left anything there before; and each answer has its cause. The contract of `litestream` says so,
-//! answer by answer; the program's `main` makes this one call on the real objects. `restore` is the one command
-//! that is built.
+//! could have left anything there before; a listing is that of the replica's files; each answer has its cause, and
+//! each refusal is said in one line. The contract of `litestream` says so, command by command; the program's `main`
+//! makes this one call on the real objects. `restore` and `ltx` are the commands that are built.
 //!
-//! Stands on `ls_base`, `crash_disk`, `ls_words`, `replica_store`, `restore_plan` and `restore_apply`, on
-//! `ltx_format` for its proofs alone, and on `itoa` and `arrayvec` for the line that is printed.
+//! Stands on `ls_base`, `crash_disk`, `ls_words`, `replica_store`, `restore_plan`, `restore_apply`, `ls_answers` and
+//! `ltx_command`, on `ltx_format` for its proofs alone, and on `itoa` and `arrayvec` for the line that is printed.
 #![tactic(auto)]
 
 mod asked;
 mod command;
 mod law;
 mod line;
-mod outcome;
+mod listing;
 mod prepare;
 mod request;
 
 pub use command::litestream;
-pub use outcome::{Outcome, Why};
+pub use ls_answers::{Outcome, Why};

@@ -2,16 +2,16 @@
 
 ghost use Rattle.std.specs.Prelude.{◌≡◌, ◌≢◌, ◌≤◌, [], Some, IfOk, IfErr, OnOk};
 ghost use Rattle.replica_store.specs.Chain.{IsListOrdered};
-ghost use Rattle.litestream_core.specs.declared.outcome.Why.TheVariants.{StoreFault, TargetFault};
+ghost use Rattle.ls_answers.specs.declared.outcome.Why.TheVariants.{StoreFault, TargetFault};
 ghost use Rattle.litestream_core.specs.Asked.{AreNames, IsPlan, AreAttached};
 ghost use Rattle.litestream_core.specs.Command.{LacksOutput, IfFilesTold};
 ghost use Rattle.litestream_core.specs.Preparing.{IsRefusalOf, why_of_plan, ExplainsOutput, ExplainsReading, ExplainsPrepare};
 ghost use Rattle.litestream_core.specs.RequestView.{as_request};
 
 use crate::asked::{asked, refusal};
-use crate::outcome::Why;
 use crate::request::Request;
 use crash_disk::{Disk, NamesFault};
+use ls_answers::Why;
 use ls_base::Txid;
 use replica_store::{FileNames, list};
 use restore_plan::{PlanFault, plan};
@@ -54,7 +54,8 @@ fn plan_refusal(fault: PlanFault) -> Why
 /// Looks whether the output's name is free.
 fn find_output<T: Disk>(alloc: Global, request: &Request<'_>, target: &mut T) -> Result<(), Why>
     ensures absent { OnOk result (LacksOutput (T.content target.old request.now.folder.now) (as_request request.now)) }
-    ensures explained { IfErr result (ExplainsOutput (as_request request.now) (T.content target.old request.now.folder.now) (T.fault_count target.old) (T.fault_count target.new)) }
+    ensures explained { IfErr result (ExplainsOutput (as_request request.now)
+        (T.content target.old request.now.folder.now) (T.fault_count target.old) (T.fault_count target.new)) }
     ensures attached { OnOk result (T.folder target.new ≡ Some request.now.folder.now) }
     ensures unchanged { T.content target.new request.now.folder.now ≡ T.content target.old request.now.folder.now }
     ensures later { T.fault_count target.old ≤ T.fault_count target.new }
@@ -79,9 +80,11 @@ fn find_names<S: Disk>(
 ) -> Result<FileNames, Why>
     ensures some { IfOk result (λ names. names ≢ []) }
     ensures in_order { IfOk result (λ names. IsListOrdered names) }
-    ensures names { IfOk result (λ names. IfFilesTold (S.content store.old request.now.replica.now) (λ files. AreNames files names)) }
+    ensures names { IfOk result (λ names. IfFilesTold (S.content store.old request.now.replica.now)
+        (λ files. AreNames files names)) }
     ensures attached { OnOk result (S.folder store.new ≡ Some request.now.replica.now) }
-    ensures explained { IfErr result (ExplainsReading (as_request request.now) (S.content store.old request.now.replica.now) (S.fault_count store.old) (S.fault_count store.new)) }
+    ensures explained { IfErr result (ExplainsReading (as_request request.now)
+        (S.content store.old request.now.replica.now) (S.fault_count store.old) (S.fault_count store.new)) }
     ensures unchanged { S.content store.new request.now.replica.now ≡ S.content store.old request.now.replica.now }
     ensures later { S.fault_count store.old ≤ S.fault_count store.new }
 {
@@ -100,9 +103,11 @@ fn find_names<S: Disk>(
 /// The plan of the request.
 fn find_plan<S: Disk>(alloc: Global, request: &Request<'_>, store: &mut S) -> Result<Prepared, Why>
     ensures some { IfOk result (λ ready. ready.plan ≢ []) }
-    ensures plan { IfOk result (λ ready. IfFilesTold (S.content store.old request.now.replica.now) (λ files. IsPlan files (as_request request.now) ready.txid ready.plan)) }
+    ensures plan { IfOk result (λ ready. IfFilesTold (S.content store.old request.now.replica.now)
+        (λ files. IsPlan files (as_request request.now) ready.txid ready.plan)) }
     ensures attached { OnOk result (S.folder store.new ≡ Some request.now.replica.now) }
-    ensures explained { IfErr result (ExplainsReading (as_request request.now) (S.content store.old request.now.replica.now) (S.fault_count store.old) (S.fault_count store.new)) }
+    ensures explained { IfErr result (ExplainsReading (as_request request.now)
+        (S.content store.old request.now.replica.now) (S.fault_count store.old) (S.fault_count store.new)) }
     ensures unchanged { S.content store.new request.now.replica.now ≡ S.content store.old request.now.replica.now }
     ensures later { S.fault_count store.old ≤ S.fault_count store.new }
 {
@@ -122,13 +127,18 @@ pub fn prepare<S: Disk, T: Disk>(
     store: &mut S,
     target: &mut T,
 ) -> Result<Prepared, Why>
-    ensures absent { IfOk result (λ _. LacksOutput (T.content target.old request.now.folder.now) (as_request request.now)) }
+    ensures absent { IfOk result (λ _. LacksOutput (T.content target.old request.now.folder.now)
+        (as_request request.now)) }
     ensures some { IfOk result (λ ready. ready.plan ≢ []) }
-    ensures plan { IfOk result (λ ready. IfFilesTold (S.content store.old request.now.replica.now) (λ files. IsPlan files (as_request request.now) ready.txid ready.plan)) }
+    ensures plan { IfOk result (λ ready. IfFilesTold (S.content store.old request.now.replica.now)
+        (λ files. IsPlan files (as_request request.now) ready.txid ready.plan)) }
     ensures attached { OnOk result (AreAttached (as_request request.now) (S.folder store.new) (T.folder target.new)) }
-    ensures explained { IfErr result (ExplainsPrepare (as_request request.now) (S.content store.old request.now.replica.now) (S.fault_count store.old) (S.fault_count store.new) (T.content target.old request.now.folder.now) (T.fault_count target.old) (T.fault_count target.new)) }
+    ensures explained { IfErr result (ExplainsPrepare (as_request request.now)
+        (S.content store.old request.now.replica.now) (S.fault_count store.old) (S.fault_count store.new)
+        (T.content target.old request.now.folder.now) (T.fault_count target.old) (T.fault_count target.new)) }
     ensures store_unchanged { S.content store.new request.now.replica.now ≡ S.content store.old request.now.replica.now }
-    ensures target_unchanged { T.content target.new request.now.folder.now ≡ T.content target.old request.now.folder.now }
+    ensures target_unchanged { T.content target.new request.now.folder.now ≡ T.content target.old
+        request.now.folder.now }
     ensures store_later { S.fault_count store.old ≤ S.fault_count store.new }
     ensures target_later { T.fault_count target.old ≤ T.fault_count target.new }
 {

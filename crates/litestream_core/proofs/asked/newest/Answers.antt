@@ -1,4 +1,4 @@
-use Rattle.std.proofs.Common.{◌≡◌, refl, arith, sym, ap, ◌∙◌}
+use Rattle.std.proofs.Common.{arith, sym, ◌∙◌}
 use Rattle.litestream_core.proofs.NewestLemmas.{first_found, one_more, is_newest, gt_true, gt_false}
 use Rattle.litestream_core.proofs.asked.newest.Goals as goal
 use Rattle.litestream_core.proofs.asked.newest.Goals.{then-gt, else-gt}

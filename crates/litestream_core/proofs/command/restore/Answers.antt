@@ -1,4 +1,4 @@
-use Rattle.std.proofs.Common.{◌≡◌, List, ℕ, refl, sym, ap, subst, ◌∙◌}
+use Rattle.std.proofs.Common.{List, ℕ, refl, sym, ap, subst, ◌∙◌}
 use Rattle.crash_disk.specs.Output.{gains_text, GainsFront}
 use Rattle.litestream_core.specs.Command.{Explains}
 use Rattle.litestream_core.specs.RequestView.{as_request}

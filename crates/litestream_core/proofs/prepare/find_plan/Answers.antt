@@ -1,4 +1,4 @@
-use Rattle.std.proofs.Common.{◌≡◌, ℕ, ap, subst, sym, ◌∙◌, List, Err}
+use Rattle.std.proofs.Common.{ap, subst, sym, ◌∙◌, List, Err}
 use Rattle.crash_disk.specs.Files.{files_after}
 use Rattle.replica_store.specs.declared.file_name.FileName.{FileName}
 use Rattle.replica_store.specs.Chain.{IsRetained}
