@@ -12,6 +12,8 @@ use Rattle.ls_answers.specs.declared.outcome.Why.{Why}
 use Rattle.ls_answers.specs.declared.outcome.Why.TheVariants.{Done, SkippedOutput, SkippedReplica, NotBuilt, Usage}
 use Rattle.ls_answers.specs.declared.outcome.Why.TheVariants.{NoReplica, MissingRange, NoMoment, Damaged, PageMissing}
 use Rattle.ls_answers.specs.declared.outcome.Why.TheVariants.{OutputExists, StoreFault, TargetFault, SinkFault, Memory}
+use Rattle.ls_answers.specs.declared.outcome.Why.TheVariants.{NoDatabase, Header, SizesDiffer, WalTooLong, TooLarge}
+use Rattle.ls_answers.specs.declared.outcome.Why.TheVariants.{GateBroken, TxidSpent, LiveFault}
 use Rattle.ls_answers.specs.Refusal.{blamed_word, usage_text, reason_text, refusal_text, said_text}
 
 -- of the text the rest isn't put yet, and what stands before it is
@@ -78,6 +80,14 @@ usage_pieces words usage head word is_head is_word =
 pub reason_is : (words : List (List ℕ)) (why : Why) (reason : List ℕ) → Some reason ≡ reason_text why
     → refusal_text words why ≡ Some reason
 reason_is words NotBuilt reason is = sym is
+reason_is words NoDatabase reason is = sym is
+reason_is words (Header fault) reason is = sym is
+reason_is words (SizesDiffer db wal) reason is = sym is
+reason_is words (WalTooLong size) reason is = sym is
+reason_is words (TooLarge size) reason is = sym is
+reason_is words (GateBroken broken) reason is = sym is
+reason_is words TxidSpent reason is = sym is
+reason_is words LiveFault reason is = sym is
 reason_is words NoReplica reason is = sym is
 reason_is words (MissingRange after) reason is = sym is
 reason_is words NoMoment reason is = sym is

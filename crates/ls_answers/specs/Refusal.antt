@@ -2,6 +2,8 @@
 use Rattle.std.specs.Prelude.{ℕ, List, [], ◌++◌, Option, Some, None, codes, decimal}
 use Rattle.std.specs.List.{slice_index_or}
 use Rattle.ls_base.specs.Txid.{hex_digits}
+use Rattle.db_page.specs.declared.fault.HeaderFault.{HeaderFault}
+use Rattle.db_page.specs.declared.fault.HeaderFault.TheVariants as header
 use Rattle.ls_words.specs.declared.usage.UsageWhy.{UsageWhy}
 use Rattle.ls_words.specs.declared.usage.UsageWhy.TheVariants as word
 use Rattle.ltx_format.specs.declared.fault.LtxFault.{LtxFault}
@@ -10,10 +12,14 @@ use Rattle.replica_store.specs.declared.error.Damage.{Damage}
 use Rattle.replica_store.specs.declared.error.Damage.TheVariants as damage
 use Rattle.replica_store.specs.declared.file_name.FileName.{FileName}
 use Rattle.replica_store.specs.NameText.{file_path}
+use Rattle.ls_answers.specs.declared.outcome.Broken.{Broken}
+use Rattle.ls_answers.specs.declared.outcome.Broken.TheVariants.{Salts, Short}
 use Rattle.ls_answers.specs.declared.outcome.Why.{Why}
 use Rattle.ls_answers.specs.declared.outcome.Why.TheVariants.{Done, SkippedOutput, SkippedReplica, NotBuilt, Usage}
 use Rattle.ls_answers.specs.declared.outcome.Why.TheVariants.{NoReplica, MissingRange, NoMoment, Damaged, PageMissing}
 use Rattle.ls_answers.specs.declared.outcome.Why.TheVariants.{OutputExists, StoreFault, TargetFault, SinkFault, Memory}
+use Rattle.ls_answers.specs.declared.outcome.Why.TheVariants.{NoDatabase, Header, SizesDiffer, WalTooLong, TooLarge}
+use Rattle.ls_answers.specs.declared.outcome.Why.TheVariants.{GateBroken, TxidSpent, LiveFault}
 
 -- what is wrong with a word
 abbrev pub usage_text : UsageWhy → List ℕ
@@ -59,6 +65,19 @@ damage_text damage.SizeDiffers = codes "page size differs"
 abbrev pub name_text : FileName → List ℕ
 name_text name = file_path name.level name.min name.max
 
+-- what is wrong with the header of a database file
+abbrev pub header_text : HeaderFault → List ℕ
+header_text (header.Short bytes) = decimal bytes ++ codes " bytes"
+header_text header.NotDatabase = codes "not a database"
+header_text (header.BadPageSize field) = codes "page size field " ++ decimal field
+header_text (header.NotWalMode write read) =
+    codes "not in WAL mode (" ++ decimal write ++ codes ", " ++ decimal read ++ codes ")"
+
+-- how the gate was broken
+abbrev pub broken_text : Broken → List ℕ
+broken_text (Salts was now) = codes "WAL salts changed"
+broken_text (Short at) = codes "WAL ends at " ++ decimal at
+
 -- What was refused and where, for each answer but bad words. None where nothing was refused.
 abbrev pub reason_text : Why → Option (List ℕ)
 reason_text Done = None
@@ -66,6 +85,13 @@ reason_text SkippedOutput = None
 reason_text SkippedReplica = None
 reason_text (Usage usage) = None
 reason_text NotBuilt = Some (codes "not built yet")
+reason_text NoDatabase = Some (codes "no database")
+reason_text (Header fault) = Some (codes "database header: " ++ header_text fault)
+reason_text (SizesDiffer db wal) =
+    Some (codes "page sizes differ: database " ++ decimal db ++ codes ", WAL " ++ decimal wal)
+reason_text (WalTooLong size) = Some (codes "WAL too long: " ++ decimal size ++ codes " bytes")
+reason_text (TooLarge size) = Some (codes "database too large: " ++ decimal size ++ codes " bytes")
+reason_text (GateBroken broken) = Some (codes "gate broken: " ++ broken_text broken)
 reason_text NoReplica = Some (codes "no replica")
 reason_text (MissingRange after) = Some (codes "missing range after " ++ hex_digits after)
 reason_text NoMoment = Some (codes "nothing kept at or before that moment")
@@ -73,6 +99,8 @@ reason_text (Damaged name damage) = Some (codes "damaged " ++ name_text name ++ 
 reason_text (PageMissing name number) =
     Some (codes "page " ++ decimal number ++ codes " missing in " ++ name_text name)
 reason_text (OutputExists size) = Some (codes "output exists: " ++ decimal size ++ codes " bytes")
+reason_text TxidSpent = Some (codes "no TXID left")
+reason_text LiveFault = Some (codes "database fault")
 reason_text StoreFault = Some (codes "replica fault")
 reason_text TargetFault = Some (codes "output file fault")
 reason_text SinkFault = Some (codes "output fault")

@@ -4,6 +4,7 @@ ghost use Rattle.std.specs.Prelude.{◌≡◌, ◌≤◌, ◌++◌, length, code
 ghost use Rattle.ls_base.specs.Txid.{hex_digits};
 ghost use Rattle.ls_answers.specs.Refusal.{damage_text, fault_text, name_text, reason_text};
 
+use crate::database::{bad_header, broken_gate, bytes_of, sizes_differ};
 use crate::outcome::Why;
 use arrayvec::ArrayVec;
 use itoa::Buffer;
@@ -21,7 +22,7 @@ pub type Reason = ArrayVec<u8, REASON_BYTES>;
 const DAMAGE_BYTES: usize = 28;
 
 /// The bytes of the text.
-fn plain<const N: usize>(text: &str) -> ArrayVec<u8, N>
+pub fn plain<const N: usize>(text: &str) -> ArrayVec<u8, N>
     requires { length text.now ≤ N }
     ensures { result.items ≡ text.now }
 {
@@ -129,20 +130,6 @@ fn page_missing(name: &FileName, number: u32) -> Reason
     reason
 }
 
-/// The output is there, with this many bytes.
-fn output_exists(size: u64) -> Reason
-    ensures { result.items ≡ codes "output exists: " ++ decimal size ++ codes " bytes" }
-{
-    let mut reason = ArrayVec::new();
-    let mut digits = Buffer::new();
-    reason.try_extend_from_slice(b"output exists: ").unwrap();
-    reason
-        .try_extend_from_slice(digits.format(size).as_bytes())
-        .unwrap();
-    reason.try_extend_from_slice(b" bytes").unwrap();
-    reason
-}
-
 /// What was refused and where. `None` where nothing was refused, and for bad words, whose text has a word in it.
 pub fn reason_of(why: &Why) -> Option<Reason>
     ensures { option_map (λ reason. reason.items) result ≡ reason_text why.now }
@@ -150,12 +137,20 @@ pub fn reason_of(why: &Why) -> Option<Reason>
     Some(match why {
         Why::Done | Why::SkippedOutput | Why::SkippedReplica | Why::Usage(_) => return None,
         Why::NotBuilt => plain("not built yet"),
+        Why::NoDatabase => plain("no database"),
+        Why::Header(fault) => bad_header(*fault),
+        Why::SizesDiffer { db, wal } => sizes_differ(*db, *wal),
+        Why::WalTooLong(size) => bytes_of("WAL too long: ", *size),
+        Why::TooLarge(size) => bytes_of("database too large: ", *size),
+        Why::GateBroken(broken) => broken_gate(*broken),
         Why::NoReplica => plain("no replica"),
         Why::MissingRange(after) => missing_range(*after),
         Why::NoMoment => plain("nothing kept at or before that moment"),
         Why::Damaged(name, damage) => damaged(name, *damage),
         Why::PageMissing(name, number) => page_missing(name, *number),
-        Why::OutputExists(size) => output_exists(*size),
+        Why::OutputExists(size) => bytes_of("output exists: ", *size),
+        Why::TxidSpent => plain("no TXID left"),
+        Why::LiveFault => plain("database fault"),
         Why::StoreFault => plain("replica fault"),
         Why::TargetFault => plain("output file fault"),
         Why::SinkFault => plain("output fault"),

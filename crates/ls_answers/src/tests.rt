@@ -2,6 +2,7 @@
 
 use super::*;
 use crash_disk::{MemOut, Out};
+use db_page::HeaderFault;
 use ls_base::Txid;
 use ls_words::{Usage, UsageWhy, Words};
 use ltx_format::LtxFault;
@@ -10,11 +11,52 @@ use std::alloc::Global;
 use std::process::Abort;
 use std::test::*;
 
-const PLAIN: [(Why, &str); 12] = [
+const PLAIN: [(Why, &str); 22] = [
     (Why::Done, ""),
     (Why::SkippedOutput, ""),
     (Why::SkippedReplica, ""),
     (Why::NotBuilt, "litestream: not built yet\n"),
+    (Why::NoDatabase, "litestream: no database\n"),
+    (
+        Why::Header(HeaderFault::Short(99)),
+        "litestream: database header: 99 bytes\n",
+    ),
+    (
+        Why::Header(HeaderFault::NotDatabase),
+        "litestream: database header: not a database\n",
+    ),
+    (
+        Why::Header(HeaderFault::BadPageSize(65_535)),
+        "litestream: database header: page size field 65535\n",
+    ),
+    (
+        Why::Header(HeaderFault::NotWalMode {
+            write: 1,
+            read: 255,
+        }),
+        "litestream: database header: not in WAL mode (1, 255)\n",
+    ),
+    (
+        Why::SizesDiffer {
+            db: 512,
+            wal: 4_294_967_295,
+        },
+        "litestream: page sizes differ: database 512, WAL 4294967295\n",
+    ),
+    (
+        Why::WalTooLong(4_294_967_297),
+        "litestream: WAL too long: 4294967297 bytes\n",
+    ),
+    (
+        Why::TooLarge(18_446_744_073_709_551_615),
+        "litestream: database too large: 18446744073709551615 bytes\n",
+    ),
+    (
+        Why::GateBroken(Broken::Short {
+            at: 18_446_744_073_709_551_615,
+        }),
+        "litestream: gate broken: WAL ends at 18446744073709551615\n",
+    ),
     (Why::NoReplica, "litestream: no replica\n"),
     (
         Why::MissingRange(0),
@@ -32,6 +74,8 @@ const PLAIN: [(Why, &str); 12] = [
         Why::OutputExists(18_446_744_073_709_551_615),
         "litestream: output exists: 18446744073709551615 bytes\n",
     ),
+    (Why::TxidSpent, "litestream: no TXID left\n"),
+    (Why::LiveFault, "litestream: database fault\n"),
     (Why::StoreFault, "litestream: replica fault\n"),
     (Why::TargetFault, "litestream: output file fault\n"),
     (Why::SinkFault, "litestream: output fault\n"),
@@ -114,6 +158,13 @@ fn check_plain(rt: &impl Abort, alloc: Global) -> Result<(), Fail> {
     for (why, line) in PLAIN.iter() {
         assert!(rt; said(alloc, *why)?.bytes() == line.as_bytes(), "{line}");
     }
+    let salts = Broken::Salts {
+        was: (1, 2),
+        now: None,
+    };
+    let broken = said(alloc, Why::GateBroken(salts))?;
+    let text = b"litestream: gate broken: WAL salts changed\n".as_slice();
+    assert!(rt; broken.bytes() == text);
     let memory = said(alloc, Why::Memory)?;
     assert!(rt; memory.bytes() == b"litestream: out of memory\n".as_slice());
     Ok(())

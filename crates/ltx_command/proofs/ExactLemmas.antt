@@ -10,6 +10,8 @@ use Rattle.ls_answers.specs.declared.outcome.Why.{Why}
 use Rattle.ls_answers.specs.declared.outcome.Why.TheVariants.{Done, SkippedOutput, SkippedReplica, NotBuilt, Usage}
 use Rattle.ls_answers.specs.declared.outcome.Why.TheVariants.{NoReplica, MissingRange, NoMoment, Damaged, PageMissing}
 use Rattle.ls_answers.specs.declared.outcome.Why.TheVariants.{OutputExists, StoreFault, TargetFault, SinkFault, Memory}
+use Rattle.ls_answers.specs.declared.outcome.Why.TheVariants.{NoDatabase, Header, SizesDiffer, WalTooLong, TooLarge}
+use Rattle.ls_answers.specs.declared.outcome.Why.TheVariants.{GateBroken, TxidSpent, LiveFault}
 use Rattle.ltx_command.specs.Answers.{Explains}
 use Rattle.ltx_command.specs.Exact.{ComesExactly, IsCalm, Answers, AnswersDamaged}
 use Rattle.ltx_command.specs.Files.{HeadersAreGood, IsFirstDamaged}
@@ -53,6 +55,14 @@ module _ (laws : Laws) (seen : Seen) (store : List Event) (told : seen.store ≡
   where_damaged name damage bad (PageMissing other number) never = absurd never
   where_damaged name damage bad (OutputExists size) never = absurd never
   where_damaged name damage bad TargetFault never = absurd never
+  where_damaged name damage bad NoDatabase never = absurd never
+  where_damaged name damage bad (Header fault) never = absurd never
+  where_damaged name damage bad (SizesDiffer db wal) never = absurd never
+  where_damaged name damage bad (WalTooLong size) never = absurd never
+  where_damaged name damage bad (TooLarge size) never = absurd never
+  where_damaged name damage bad (GateBroken broken) never = absurd never
+  where_damaged name damage bad TxidSpent never = absurd never
+  where_damaged name damage bad LiveFault never = absurd never
 
   pub where_good : HeadersAreGood (files_after store) → IsCalm seen.sink_faults seen.sink_faults_after → (why : Why)
       → Explains seen why → Answers why Done
@@ -72,6 +82,14 @@ module _ (laws : Laws) (seen : Seen) (store : List Event) (told : seen.store ≡
   where_good good sink_calm (PageMissing other number) never = absurd never
   where_good good sink_calm (OutputExists size) never = absurd never
   where_good good sink_calm TargetFault never = absurd never
+  where_good good sink_calm NoDatabase never = absurd never
+  where_good good sink_calm (Header fault) never = absurd never
+  where_good good sink_calm (SizesDiffer db wal) never = absurd never
+  where_good good sink_calm (WalTooLong size) never = absurd never
+  where_good good sink_calm (TooLarge size) never = absurd never
+  where_good good sink_calm (GateBroken broken) never = absurd never
+  where_good good sink_calm TxidSpent never = absurd never
+  where_good good sink_calm LiveFault never = absurd never
 
 pub comes_exactly : Laws → (seen : Seen) (why : Why) → Explains seen why → ComesExactly seen why
 comes_exactly laws seen why explained = record {
