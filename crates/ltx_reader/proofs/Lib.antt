@@ -11,3 +11,5 @@ pub mod ReaderProgressLemmas
 pub mod ReaderPageLemmas
 pub mod ReaderBeginLemmas
 pub mod ReaderLawLemmas
+pub mod ReaderNumbersLemmas
+pub mod ReaderListLemmas

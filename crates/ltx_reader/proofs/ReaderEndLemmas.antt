@@ -1,7 +1,6 @@
 -- The end of a file behind its blocks: what is tested, and how many bytes that takes.
-use Rattle.std.proofs.Common.{◌≡◌, ◌≢◌, ℕ, ◌+◌, ◌*◌, Bool, true, false, not, ◌==◌, ◌||◌, List, [], ◌∷◌, Option, Some, None, Result, refl, sym, ap, subst, ◌∙◌, if◌then◌else◌}
+use Rattle.std.proofs.Common.{◌≡◌, ℕ, ◌+◌, ◌*◌, Bool, true, false, not, ◌==◌, ◌||◌, List, [], ◌∷◌, Option, Some, None, Result, refl, sym, ap, subst, ◌∙◌, if◌then◌else◌}
 use Rattle.std.specs.Option.{option_or}
-use Rattle.std.proofs.lemmas.Bool.{eq-eqb, ne_eqb}
 use Rattle.ltx_format.specs.declared.fault.LtxFault.{LtxFault}
 use Rattle.ltx_format.specs.declared.fault.LtxFault.TheVariants.{BadOrder}
 use Rattle.ltx_format.specs.declared.header.LtxHeader.{LtxHeader}
@@ -68,16 +67,3 @@ module _ (bytes : List ℕ) (h : LtxHeader) (has : HasHeader bytes h) (count at 
 pub passes_same : {T : Type 0} (P : T → Type 0) (a b : Option LtxFault) (r : Result T ReadFault) → a ≡ b
     → Passes P a r → Passes P b r
 passes_same P a b r same = subst (λ (fault : Option LtxFault). Passes P fault r) same
-
-pub whole_later : (bytes : List ℕ) (h : LtxHeader) (count : ℕ) → HasHeader bytes h → h.min ≢ 1
-    → true ≡ is_whole bytes count
-whole_later bytes h count has later =
-    let not_first : (h.min == 1) ≡ false = ne_eqb h.min 1 later in
-    sym (whole_by bytes h count has ∙ ap (λ b. not b || count == stored_pages h.size h.commit) not_first)
-
-pub whole_first : (bytes : List ℕ) (h : LtxHeader) (count pages : ℕ) → HasHeader bytes h → h.min ≡ 1
-    → pages ≡ stored_pages h.size h.commit → (count == pages) ≡ is_whole bytes count
-whole_first bytes h count pages has first is =
-    let is_first : (h.min == 1) ≡ true = eq-eqb h.min 1 first in
-    ap (λ n. count == n) is ∙ sym (whole_by bytes h count has
-    ∙ ap (λ b. not b || count == stored_pages h.size h.commit) is_first)

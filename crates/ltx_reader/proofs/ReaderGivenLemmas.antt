@@ -54,3 +54,10 @@ again_if false count is = absurd cc
 
 pub again_indexed : (h : LtxHeader) (count : ℕ) → h.index ≡ true → bytes_again h count ≡ 4 * count
 again_indexed h count is = again_if h.index count is
+
+-- a reading from the start of a file gives no more than the file has
+pub gives_file : (events : List Event) (path name : List ℕ) (room : ℕ) (x y : Option ℕ) → path ≡ name
+    → GivesAtMost (min room (length (bytes_named events path) - 0)) x y
+    → GivesAtMost (length (bytes_named events name)) x y
+gives_file events path name room x y same gave = gives_within _ _ x y (gives_here events path name room 0 x y same gave)
+    (omega arith)

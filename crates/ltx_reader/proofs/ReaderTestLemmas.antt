@@ -1,17 +1,17 @@
 -- What the bytes that were read from a file say of its tests.
-use Rattle.std.proofs.Common.{◌≡◌, ℕ, ◌+◌, ◌-◌, ◌*◌, ◌%◌, ◌≤◌, ◌<◌, Bool, true, false, eqb, List, [], ◌∷◌, length, take, drop, get_or, Option, Some, None, Result, Ok, Err, refl, sym, ap, subst, ◌∙◌, arith}
+use Rattle.std.proofs.Common.{◌≡◌, ℕ, ◌+◌, ◌-◌, ◌*◌, ◌%◌, ◌≤◌, Bool, true, false, eqb, List, [], ◌∷◌, length, take, drop, get_or, Option, Some, Result, Ok, Err, refl, sym, ap, subst, ◌∙◌, arith}
 use Rattle.std.specs.Int.{w16, w32, from_be_bytes}
 use Rattle.std.specs.Result.{IsErrAnd}
-use Rattle.std.proofs.lemmas.Bool.{le-leb, lt-leb}
+use Rattle.std.proofs.lemmas.Bool.{le-leb}
 use Rattle.std.proofs.lemmas.List.{take_all, take-take, drop-take, drop-drop, get_or-take, get_or-drop}
 use Rattle.ltx_format.specs.declared.fault.LtxFault.{LtxFault}
-use Rattle.ltx_format.specs.declared.fault.LtxFault.TheVariants.{Short, Compressed, BadFlags}
+use Rattle.ltx_format.specs.declared.fault.LtxFault.TheVariants.{Compressed, BadFlags}
 use Rattle.ltx_reader.specs.declared.read_fault.ReadFault.{ReadFault}
 use Rattle.ltx_reader.specs.declared.read_fault.ReadFault.TheVariants.{Disk, Fault, Memory}
 use Rattle.ltx_format.specs.FirstFault.{Tests, first_failed, number, block_tests}
 use Rattle.ltx_format.specs.Reading.{◌>>=◌, passes, flags_from}
 use Rattle.ltx_reader.specs.Reader.{AreBytes}
-use Rattle.ltx_reader.specs.ReaderSteps.{IsFilled, StandAt, Passes, HasFault, reaches}
+use Rattle.ltx_reader.specs.ReaderSteps.{IsFilled, StandAt, Passes, HasFault}
 use Rattle.ltx_format.proofs.TestSteps.{fault_of}
 
 pub record Filled (bytes : List ℕ) (at : ℕ) (into : List ℕ) : Type 0 where

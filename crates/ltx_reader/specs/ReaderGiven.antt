@@ -29,3 +29,8 @@ bytes_to_come bytes reader (Failed fault) = 0
 
 abbrev pub bytes_left : List ℕ → Reader → ℕ
 bytes_left bytes reader = bytes_to_come bytes reader reader.progress
+
+-- one page more was given, and the reader stands before a block
+pub record HasCounted (old new : Reader) : Type 0 where
+  pub count : new.count ≡ old.count + 1
+  pub going : new.progress ≡ Going

@@ -13,6 +13,7 @@ ghost use Rattle.ltx_reader.specs.ReaderSteps.{Passes, StandAt, IsTrailer, HasFa
 use crate::block_front::{FRONT_BYTES, four_at};
 use crate::field::u64_at;
 use crate::filling::fill;
+use crate::page_numbers::has_all;
 use crate::read_fault::ReadFault;
 use crate::reader::LtxReader;
 use crash_disk::Disk;
@@ -64,7 +65,7 @@ impl LtxReader {
     fn has_all(&self) -> bool
         ensures { (bytes : List ℕ) → HasHeader bytes self.now.header → result ≡ is_whole bytes self.now.count }
     {
-        self.header.min.number() != 1 || self.count == self.header.stored_pages()
+        has_all(&self.header, self.count)
     }
 
     /// Tests the index at the offset, where the header says that there is one, and the trailer.

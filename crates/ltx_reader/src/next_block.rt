@@ -5,7 +5,7 @@ ghost use Rattle.crash_disk.specs.declared.fault.DiskFault.{DiskFault};
 ghost use Rattle.ltx_reader.specs.declared.progress.Progress.TheVariants as progress;
 ghost use Rattle.ltx_reader.specs.declared.read_fault.ReadFault.TheVariants as fault;
 ghost use Rattle.ls_sums.specs.Crc64.{IsBehind};
-ghost use Rattle.ltx_format.specs.FirstFault.{is_next};
+ghost use Rattle.ltx_format.specs.FirstFault as spec;
 ghost use Rattle.ltx_format.specs.LtxFormat.{HasHeader};
 ghost use Rattle.ltx_reader.specs.Reader.{OfBytes, IsReaderOf, IsFaultlessTo, HasSameFile, StaysBeforePage, Stops, Waits, next_block};
 ghost use Rattle.ltx_reader.specs.ReaderCause.{ReadHasCause};
@@ -14,6 +14,7 @@ ghost use Rattle.ltx_reader.specs.ReaderSteps.{Passes, IsNext, StandAt, IsAboveO
 
 use crate::block_front::{FRONT_BYTES, front_at};
 use crate::filling::fill;
+use crate::page_numbers::is_next;
 use crate::progress::Progress;
 use crate::read_fault::ReadFault;
 use crate::reader::LtxReader;
@@ -105,9 +106,9 @@ impl LtxReader {
 
     /// Whether the number is above the last one, at most the commit, and isn't the lock page.
     fn is_next(&self, number: u32) -> bool
-        ensures { result ≡ is_next self.now.header.size self.now.header.commit self.now.last number }
+        ensures { result ≡ spec.is_next self.now.header.size self.now.header.commit self.now.last number }
     {
-        number > self.last && number <= self.header.commit && number != self.header.size.lock_page()
+        is_next(&self.header, self.last, number)
     }
 
     /// The fault, which stops the reader where the file has it.

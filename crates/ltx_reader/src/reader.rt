@@ -1,11 +1,12 @@
 //! Reading a file page by page.
 
 ghost use Rattle.std.specs.Prelude.{◌≡◌, ℕ, ◌+◌, ◌-◌, Some, Ok, length, IfOk, IfErr, IsErrOf};
+ghost use Rattle.ltx_format.specs.LtxFormat.{IsHeader};
 ghost use Rattle.ltx_reader.specs.declared.progress.Progress.TheVariants as progress;
 ghost use Rattle.ltx_reader.specs.declared.read_fault.ReadFault.TheVariants as fault;
 ghost use Rattle.crash_disk.specs.declared.fault.DiskFault.{DiskFault};
 ghost use Rattle.ltx_reader.specs.Reader.{OfBytes, IsReaderOf, Announces, Gives, TellsFault, IsAsBefore, HasSameFile, StaysBeforePage, Stops, Waits, Repeats, RepeatsNumber, IfKnown, steps_of, pages_left, pages_of};
-ghost use Rattle.ltx_reader.specs.ReaderGiven.{GivesAtMost, read_so_far, bytes_left};
+ghost use Rattle.ltx_reader.specs.ReaderGiven.{GivesAtMost, HasCounted, read_so_far, bytes_left};
 ghost use Rattle.ltx_reader.specs.ReaderCause.{ReadHasCause};
 
 use crate::filling::fill;
@@ -33,6 +34,7 @@ pub struct LtxReader {
 
 impl Model for LtxReader {
     ghost use Rattle.std.specs.Prelude.{string_bytes, ◌≤◌};
+    ghost use Rattle.ltx_format.specs.LtxFormat.{IsHeader};
     ghost use Rattle.ltx_reader.specs.Reader.{Reader, IsAbove};
 
     ghost Value = { Reader };
@@ -46,7 +48,7 @@ impl Model for LtxReader {
       progress = r.progress;
     } };
 
-    ghost invariant = { λ r. (r.count ≤ r.last) × IsAbove r.last r.progress };
+    ghost invariant = { λ r. (r.count ≤ r.last) × IsAbove r.last r.progress × IsHeader r.header };
 }
 
 impl LtxReader {
@@ -60,6 +62,8 @@ impl LtxReader {
         ensures start { IfOk result (λ reader. (reader.progress ≡ progress.Going) × (reader.count ≡ 0)) }
         ensures fault { IfErr result (λ e. OfBytes (D.told disk.old) name.now (λ bytes. TellsFault bytes e)) }
         ensures gave { GivesAtMost 100 (D.given disk.old) (D.given disk.new) }
+        ensures gave_file { OfBytes (D.told disk.old) name.now (λ bytes. GivesAtMost (length bytes)
+            (D.given disk.old) (D.given disk.new)) }
         ensures unchanged { D.told disk.new ≡ D.told disk.old }
         ensures same_folder { D.folder disk.new ≡ D.folder disk.old }
         ensures cause { ReadHasCause (D.fault_count disk.old) (D.fault_count disk.new) result }
@@ -83,9 +87,10 @@ impl LtxReader {
         })
     }
 
-    /// The header of the file.
+    /// The header of the file: one that a file may have, also where the disk doesn't tell its content.
     pub fn header(&self) -> &LtxHeader
-        ensures { result.now ≡ self.now.header }
+        ensures value { result.now ≡ self.now.header }
+        ensures valid { IsHeader result.now }
     {
         &self.header
     }
@@ -144,6 +149,7 @@ impl LtxReader {
         ensures again { Repeats self.old.progress result }
         ensures still { (why : DiskFault) → IsErrOf result (fault.Disk why) → IsAsBefore self.old self.new }
         ensures moved { (n : ℕ) → result ≡ Ok (Some n) → self.new.last ≡ n }
+        ensures counted { (n : ℕ) → result ≡ Ok (Some n) → HasCounted self.old self.new }
         ensures steps { steps.new ≡ steps.old + steps_of result }
         ensures gave { OfBytes (D.told disk.old) self.old.name (λ bytes. IsReaderOf bytes self.old
             → GivesAtMost (bytes_left bytes self.old) (D.given disk.old) (D.given disk.new)) }

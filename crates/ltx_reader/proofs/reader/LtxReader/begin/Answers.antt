@@ -3,6 +3,7 @@ use Rattle.ltx_reader.specs.Reader.{bytes_named}
 use Rattle.ltx_reader.specs.ReaderSteps.{IsFilled}
 use Rattle.ltx_format.proofs.FrontLemmas.{no_header_fault}
 use Rattle.ltx_reader.proofs.ReaderBeginLemmas.{header_short, header_stops, front_read, has_in_front, fault_in_front, summed_header, begins, told_err}
+use Rattle.ltx_reader.proofs.ReaderGivenLemmas.{gives_file}
 use Rattle.ltx_reader.proofs.reader.LtxReader.begin.Goals as goal
 
 pub returns-then-count-lt-HEADER_BYTES-clause-fault : goal.returns-then-count-lt-HEADER_BYTES-clause-fault
@@ -41,3 +42,8 @@ returns-clause-reads g c = λ events told.
     (fault_in_front bytes c.fill.new.into None front.same front.size front.long none)
     refl refl refl (summed_header bytes c.fill.new.into c.new-sum.result c.over.new.self front
     c.in_ok-count.ensures.are_bytes c.new-sum.ensures c.over.ensures.behind)
+
+pub returns-clause-gave_file : goal.returns-clause-gave_file
+returns-clause-gave_file g c = λ events told.
+    let name = c.as_str.ensures.value ∙ c.in_ok-name.ensures.ok in
+    gives_file events _ c.args.name.now 100 _ _ name (c.fill.ensures.gave events told)

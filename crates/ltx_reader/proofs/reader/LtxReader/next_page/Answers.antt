@@ -150,3 +150,25 @@ returns-clause-gave_page g c = λ n is.
     (λ o. Ok o) c.in-Some.is)) c.in_ok-fill_page.ensures.gave_room
     (read_past c.args.self.now mid c.take_page.new.self c.in-Some.number c.take_page.new.self.sum
     c.in_ok-number.ensures.same_file c.in_ok-number.ensures.stays waits new)
+
+pub returns-clause-counted : goal.returns-clause-counted
+returns-clause-counted g c = λ n is.
+    let mid = c.number.new.self in
+    let new : c.take_page.new.self ≡ record mid {
+      count = mid.count + 1;
+      last = c.in-Some.number;
+      sum =
+          c.take_page.new.self.sum;
+      progress = Going;
+    } =
+    c.take_page.ensures.now ∙ ap (λ (r : Reader). record r {
+      count = r.count + 1;
+      last = c.in-Some.number;
+      sum =
+          c.take_page.new.self.sum;
+      progress = Going;
+    }) c.in_ok-fill_page.ensures.now in
+    record {
+      count = ap (λ (r : Reader). r.count) new ∙ ap (λ (k : ℕ). k + 1) c.in_ok-number.ensures.stays.count;
+      going = ap (λ (r : Reader). r.progress) new;
+    }
