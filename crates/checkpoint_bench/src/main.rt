@@ -5,11 +5,9 @@
 //! SQLite wrote.
 #![tactic(auto)]
 
-mod pair_disk;
-
 use checkpointer::{backfill, restart};
-use pair_disk::{DATABASE, LOG, PairDisk};
-use std::fs::{File, OpenOptions};
+use crash_disk::Disk;
+use file_disk::FileDisk;
 use std::time::Instant;
 use std::{env, io};
 
@@ -21,25 +19,22 @@ fn main(rt: HostRuntime) -> io::Result<()> {
     let Ok(end) = end.as_str().parse::<u64>() else {
         return Ok(());
     };
-    let mut disk = PairDisk {
-        database: open(&rt, database.as_str())?,
-        log: open(&rt, log.as_str())?,
-        faults: 0,
-    };
+    let (database, log) = (database.as_str(), log.as_str());
+    // below the current folder, which has no name, a name is a path
+    let mut disk = FileDisk::new(rt);
+    if database == log || disk.attach(rt.alloc(), "").is_err() {
+        return println!(rt; "refused 0");
+    }
     let start = Instant::now(&rt)?;
-    let Ok(copied) = backfill(rt.alloc(), &mut disk, DATABASE, LOG, end) else {
+    let Ok(copied) = backfill(rt.alloc(), &mut disk, database, log, end) else {
         return println!(rt; "refused 0");
     };
     report(&rt, "backfill", &start)?;
     let start = Instant::now(&rt)?;
-    match restart(&mut disk, DATABASE, LOG, copied) {
+    match restart(&mut disk, database, log, copied) {
         Err(_) => println!(rt; "refused 0"),
         Ok(()) => report(&rt, "restart", &start),
     }
-}
-
-fn open(rt: &HostRuntime, path: &str) -> io::Result<File> {
-    OpenOptions::new().read(true).write(true).open(rt, path)
 }
 
 /// Prints a measure that began at `start`.

@@ -1,13 +1,14 @@
 //! Real files as a live database.
 
-ghost use Rattle.std.specs.Prelude.{◌≡◌, ◌≤◌, ◌<◌, ◌^◌, None, Some, length, IfOk, IsErr, OnOk, OnErr};
+ghost use Rattle.std.specs.Prelude.{◌≡◌, None};
 ghost use Rattle.ls_base.specs.Fault.{HasCause};
 
 use crate::live_files::LiveFiles;
+use file_disk::counted;
 use live_gate::{Attached, Live, LiveFault, Pass, PassFault};
 use ls_base::{PageSize, Place};
 use std::alloc::Global;
-use std::io::{self, ErrorKind};
+use std::io::ErrorKind;
 
 /// To which database a `FileLive` is attached, and whether nobody else has it open.
 #[derive(Drop)]
@@ -27,8 +28,8 @@ pub struct FileLive {
     files: LiveFiles,
     /// The offset in the log from which the next `read` answers.
     at: u64,
-    /// Whether the gate is held.
-    held: bool,
+    /// Where the gate is held, as an offset in the log: 0 for no commit.
+    held: Option<u64>,
     faults: u64,
 }
 
@@ -42,7 +43,7 @@ impl FileLive {
             attached: None,
             files: LiveFiles::new(runtime),
             at: 0,
-            held: false,
+            held: None,
             faults: 0,
         }
     }
@@ -52,10 +53,10 @@ impl FileLive {
         ensures attached { self.new.attached ≡ self.old.attached }
         ensures cause { HasCause self.old.faults self.new.faults result }
     {
-        if self.held {
+        if self.held.is_some() {
             let answer = self.files.remove_gate();
-            counted(&mut self.faults, answer)?;
-            self.held = false;
+            counted(&mut self.faults, answer, LiveFault)?;
+            self.held = None;
         }
         self.files.close();
         Ok(())
@@ -67,24 +68,18 @@ impl FileLive {
         ensures cause { HasCause self.old.faults self.new.faults result }
     {
         let answer = self.files.write_gate(end);
-        counted(&mut self.faults, answer)?;
-        self.held = true;
+        counted(&mut self.faults, answer, LiveFault)?;
+        self.held = Some(end);
         Ok(())
     }
-}
 
-/// The answer of the system, its error raised as a fault that is counted.
-fn counted<T>(faults: &mut u64, answer: io::Result<T>) -> Result<T, LiveFault>
-    ensures value { IfOk result (λ value. answer ≡ Ok value) }
-    ensures err { OnErr result (IsErr answer) }
-    ensures unchanged { OnOk result (faults.new ≡ faults.old) }
-    ensures cause { HasCause faults.old faults.new result }
-{
-    match answer {
-        Ok(value) => Ok(value),
-        Err(_) => {
-            *faults = faults.saturating_add(1);
-            Err(LiveFault)
+    /// Whether a pass up to the place may take place: nobody else has the database open, and the gate is held at the
+    /// place.
+    fn may_pass(&self, place: &Place) -> bool {
+        let at_rest = self.attached.as_ref().is_some_and(|at| at.at_rest);
+        match place {
+            Place::Wal { end, .. } => at_rest && self.held == Some(*end),
+            Place::Rest { .. } => false,
         }
     }
 }
@@ -108,7 +103,7 @@ impl Live for FileLive {
         self.release()?;
         let found = match self.files.attach(alloc, path) {
             Err(error) if error.kind() == ErrorKind::OutOfMemory => return Err(PassFault::Memory),
-            answer => counted(&mut self.faults, answer)?,
+            answer => counted(&mut self.faults, answer, LiveFault)?,
         };
         self.attached = Some(Attachment {
             path: kept,
@@ -132,25 +127,25 @@ impl Live for FileLive {
 
     fn db_head(&mut self, into: &mut [u8; 100]) -> Result<usize, LiveFault> {
         let answer = self.files.read_database(0, into);
-        counted(&mut self.faults, answer)
+        counted(&mut self.faults, answer, LiveFault)
     }
 
     fn db_size(&mut self) -> Result<u64, LiveFault> {
         let answer = self.files.database_size();
-        counted(&mut self.faults, answer)
+        counted(&mut self.faults, answer, LiveFault)
     }
 
     fn read_page(&mut self, size: PageSize, number: u32, into: &mut [u8]) -> Result<(), LiveFault> {
         let at = u64::from(number - 1) * u64::from(size.get());
         let answer = self.files.read_database(at, into);
-        let count = counted(&mut self.faults, answer)?;
+        let count = counted(&mut self.faults, answer, LiveFault)?;
         into[count..].fill(0);
         Ok(())
     }
 
     fn wal_size(&mut self) -> Result<u64, LiveFault> {
         let answer = self.files.log_size();
-        counted(&mut self.faults, answer)
+        counted(&mut self.faults, answer, LiveFault)
     }
 
     fn aim(&mut self, at: u64) -> Result<(), LiveFault> {
@@ -160,13 +155,23 @@ impl Live for FileLive {
 
     fn read(&mut self, into: &mut [u8]) -> Result<usize, LiveFault> {
         let answer = self.files.read_log(self.at, into);
-        let count = counted(&mut self.faults, answer)?;
+        let count = counted(&mut self.faults, answer, LiveFault)?;
         self.at = self.at.saturating_add(count as u64);
         Ok(count)
     }
 
     fn pass(&mut self, alloc: Global, place: &Place) -> Result<Pass, PassFault> {
-        Ok(Pass::Kept)
+        if !self.may_pass(place) {
+            return Ok(Pass::Kept);
+        }
+        let pass = match self.files.pass(alloc, place) {
+            Err(error) if error.kind() == ErrorKind::OutOfMemory => return Err(PassFault::Memory),
+            answer => counted(&mut self.faults, answer, LiveFault)?,
+        };
+        if pass == Pass::Passed {
+            self.hold(0)?;
+        }
+        Ok(pass)
     }
 
     fn faults(&self) -> u64 {

@@ -1,15 +1,21 @@
 //! The real files of a live database: the database file, its log and the gate.
 
-ghost use Rattle.std.specs.Prelude.{◌≡◌, ◌≤◌, ◌<◌, ◌^◌, length, IfOk};
+ghost use Rattle.std.specs.Prelude.{◌≡◌, ◌≤◌, ◌<◌, ◌^◌, ◌++◌, length, string_bytes, IfOk};
 
-use crate::real_file::{fill, unless_absent, within_limit, write_whole};
-use live_gate::Attached;
+use crate::passing::pass_over;
+use crash_disk::{Disk, NamesFault};
+use file_disk::{FileDisk, fill, size_of, unless_absent, write_whole};
+use live_gate::{Attached, Pass};
+use ls_base::Place;
 use std::alloc::{AllocError, Global};
 use std::fs::{self, File, OpenOptions};
 use std::io::{self, ErrorKind};
 
 /// The most bytes of a log that go through the system in one read.
 const PIECE_BYTES: usize = 1 << 16;
+
+/// What the path of the log has behind that of the database file.
+const LOG_ENDING: &str = "-wal";
 
 /// The paths of a database's files.
 #[derive(Drop)]
@@ -26,14 +32,17 @@ impl Paths {
     fn new(alloc: Global, database: &str) -> Result<Paths, AllocError> {
         Ok(Paths {
             database: String::from_str(alloc, database)?,
-            log: with_ending(alloc, database, "-wal")?,
+            log: with_ending(alloc, database, LOG_ENDING)?,
             gate: with_ending(alloc, database, "-litestream-gate")?,
             draft: with_ending(alloc, database, "-litestream-gate.tmp")?,
         })
     }
 }
 
-fn with_ending(alloc: Global, path: &str, ending: &str) -> Result<String, AllocError> {
+/// The path with this ending.
+fn with_ending(alloc: Global, path: &str, ending: &str) -> Result<String, AllocError>
+    ensures { IfOk result (λ whole. string_bytes whole ≡ path.now ++ ending.now) }
+{
     let mut whole = String::from_str(alloc, path)?;
     whole.push_str(ending)?;
     Ok(whole)
@@ -86,12 +95,12 @@ impl LiveFiles {
     pub fn write_gate(&mut self, end: u64) -> io::Result<()> {
         let paths = attached(&self.paths)?;
         let line = format!(in self.runtime.alloc(); "{end:016x}\n")?;
-        let mut file = OpenOptions::new()
+        let file = OpenOptions::new()
             .write(true)
             .create(true)
             .truncate(true)
             .open(&self.runtime, paths.draft.as_str())?;
-        write_whole(&mut file, line.as_bytes())?;
+        write_whole(&file, 0, line.as_bytes())?;
         file.sync_all()?;
         fs::rename(&self.runtime, paths.draft.as_str(), paths.gate.as_str())
     }
@@ -137,6 +146,27 @@ impl LiveFiles {
         }
     }
 
+    /// Copies the log up to the place into the database file, and empties it. Kept where the log's last commit isn't
+    /// that of the place. Files that are open are closed before.
+    pub fn pass(&mut self, alloc: Global, place: &Place) -> io::Result<Pass> {
+        self.close();
+        let paths = attached(&self.paths)?;
+        let log = with_ending(alloc, paths.database.as_str(), LOG_ENDING)?;
+        let mut disk = FileDisk::new(self.runtime);
+        // Below the current folder, which has no name, a name is a path.
+        match disk.attach(alloc, "") {
+            Ok(()) => pass_over(
+                alloc,
+                &mut disk,
+                paths.database.as_str(),
+                log.as_str(),
+                place,
+            ),
+            Err(NamesFault::Memory) => Err(ErrorKind::OutOfMemory.into()),
+            Err(NamesFault::Disk(_)) => Err(ErrorKind::Other.into()),
+        }
+    }
+
     /// The database file, open.
     fn database(&mut self) -> io::Result<&File> {
         if self.database.is_none() {
@@ -163,13 +193,4 @@ impl LiveFiles {
 /// The paths of the last `attach`.
 fn attached(paths: &Option<Paths>) -> io::Result<&Paths> {
     paths.as_ref().ok_or(ErrorKind::InvalidInput.into())
-}
-
-/// The length of an open file in bytes.
-fn size_of(file: &File) -> io::Result<u64>
-    ensures bound { IfOk result (λ n. n < 2 ^ 63) }
-{
-    let size = file.metadata()?.len();
-    within_limit(size)?;
-    Ok(size)
 }

@@ -3,16 +3,15 @@
 //! This crate is the edge that is trusted. What a file, a folder or a stream does is beyond any
 //! contract, so the objects here tell no content, and each is held to its count of faults.
 //!
-//! Stands on `litestream_core`, whose top call it makes, on `crash_disk` and on `live_gate`.
+//! Stands on `litestream_core`, whose top call it makes, on `file_disk` for real files as a disk, on `checkpointer`
+//! for a pass over a log, on `crash_disk` and on `live_gate`.
 #![tactic(auto)]
 
-mod file_disk;
 mod file_live;
-mod folder_files;
 mod live_files;
 #[cfg(test)]
 mod live_tests;
-mod real_file;
+mod passing;
 mod std_out;
 #[cfg(test)]
 mod tests;

@@ -1,95 +1,84 @@
-//! Times writing the pages of a file as an LTX file, beside the sum of as many bytes alone:
-//! `ltx_bench SOURCE TARGET`.
+//! Times an LTX file of real pages, one measure a run:
 //!
-//! Each line has the name of a measure, its result and its time in nanoseconds. The result of `write` is the
-//! number of the last page. Without files it does nothing. `bench/ltx` runs it beside `cp`.
+//! - `ltx_bench check SOURCE`: the sum of as many bytes in memory alone.
+//! - `ltx_bench write SOURCE TARGET`: the pages of the source written as an LTX file.
+//! - `ltx_bench read TARGET`: that file read page by page to its end, which tests its sum.
+//!
+//! A measure is taken some times. Each line has its name, its result and its time in nanoseconds; the result of `write`
+//! and `read` is the number of the last page. Without words it does nothing. `bench/ltx` runs it beside `cp` and `cat`.
 #![tactic(auto)]
 
 mod pages;
+mod reading;
+mod writing;
 
-ghost use Rattle.std.specs.Prelude.{◌≡◌, false, IfOk};
-ghost use Rattle.ltx_format.specs.LtxFormat.{IsHeader};
-
-use crate::pages::put_pages;
+use crash_disk::Disk;
+use file_disk::FileDisk;
 use ls_sums::Crc64;
-use ltx_format::{LtxHeader, LtxWriter, read_ltx_header};
-use std::env;
-use std::fs::{self, File};
-use std::io::{self, ErrorKind, Read, Write};
+use reading::read_file;
+use std::io::{self, ErrorKind};
 use std::time::Instant;
+use std::{env, fs};
+use writing::write_file;
 
 /// How often each measure is taken.
 const ROUNDS: u8 = 5;
-/// How many bytes are read and written at a time.
-const PIECE_BYTES: usize = 1 << 18;
-/// The header of the file: pages of 4096 bytes, 262144 of them afterwards, transaction 2, at rest.
-const HEAD: [u8; 100] = [
-    0x4c, 0x54, 0x58, 0x31, 0, 0, 0, 2, 0, 0, 0x10, 0, 0, 4, 0, 0, 0, 0, 0, 0, 0, 0, 0, 2, 0, 0, 0,
-    0, 0, 0, 0, 2, 0, 0, 1, 0x8b, 0xcf, 0xe5, 0x68, 0, 0, 0, 0, 0, 0, 0, 0, 0, 0, 0, 0, 0, 0, 0, 0,
-    0, 0, 0, 0, 0, 0, 0, 0, 0, 0, 0, 0, 0, 0, 0, 0, 0, 0, 0, 0, 0, 0, 0, 0, 0, 0x80, 0, 0, 0, 0, 0,
-    0, 0, 0, 0, 0, 0, 0, 0, 0, 0, 0, 0, 0, 0,
-];
 
 fn main(rt: HostRuntime) -> io::Result<()> {
-    let mut words = env::args(&rt)?;
-    let (Some(source), Some(target)) = (words.nth(1), words.next()) else {
+    let mut words = env::args(&rt)?.skip(1);
+    let (Some(measure), Some(source)) = (words.next(), words.next()) else {
         return Ok(());
     };
-    let bytes = fs::read(&rt, source.as_str())?;
+    match (measure.as_str(), words.next()) {
+        ("check", _) => check(&rt, source.as_str()),
+        ("write", Some(target)) => write(&rt, source.as_str(), target.as_str()),
+        ("read", _) => read(&rt, source.as_str()),
+        _ => Ok(()),
+    }
+}
+
+fn check(rt: &HostRuntime, source: &str) -> io::Result<()> {
+    let bytes = fs::read(rt, source)?;
     for _ in 0..ROUNDS {
-        let start = Instant::now(&rt)?;
-        report(&rt, "check", check_of(&bytes), &start)?;
-        let start = Instant::now(&rt)?;
-        let last = write_file(&rt, &HEAD, source.as_str(), target.as_str())?;
-        report(&rt, "write", u64::from(last), &start)?;
+        let start = Instant::now(rt)?;
+        let mut sum = Crc64::new();
+        sum.over(&bytes);
+        report(rt, "check", sum.finish(), &start)?;
     }
     Ok(())
+}
+
+fn write(rt: &HostRuntime, source: &str, target: &str) -> io::Result<()> {
+    let mut disk = paths(rt)?;
+    for _ in 0..ROUNDS {
+        let start = Instant::now(rt)?;
+        let last = write_file(rt.alloc(), &mut disk, source, target)?;
+        report(rt, "write", u64::from(last), &start)?;
+    }
+    Ok(())
+}
+
+fn read(rt: &HostRuntime, name: &str) -> io::Result<()> {
+    let mut disk = paths(rt)?;
+    for _ in 0..ROUNDS {
+        let start = Instant::now(rt)?;
+        let last = read_file(rt.alloc(), &mut disk, name)?;
+        report(rt, "read", u64::from(last), &start)?;
+    }
+    Ok(())
+}
+
+/// The disk of which each name is a path: that of the current folder, which has no name.
+fn paths(rt: &HostRuntime) -> io::Result<FileDisk> {
+    let mut disk = FileDisk::new(*rt);
+    match disk.attach(rt.alloc(), "") {
+        Ok(()) => Ok(disk),
+        Err(_) => Err(ErrorKind::OutOfMemory.into()),
+    }
 }
 
 /// Prints a measure that began at `start`.
 fn report(rt: &HostRuntime, name: &str, value: u64, start: &Instant) -> io::Result<()> {
     let time = start.elapsed(rt)?;
     println!(rt; "{name} {value} {}", time.as_nanos())
-}
-
-/// The check of all bytes.
-fn check_of(bytes: &[u8]) -> u64 {
-    let mut check = Crc64::new();
-    check.over(bytes);
-    check.finish()
-}
-
-/// The header that the bytes are, of a file without an index.
-fn plain_header(bytes: &[u8]) -> io::Result<LtxHeader>
-    ensures header { IfOk result IsHeader }
-    ensures plain { IfOk result (λ header. header.index ≡ false) }
-{
-    match read_ltx_header(bytes) {
-        Ok(header) if !header.index => Ok(header),
-        _ => Err(ErrorKind::InvalidData.into()),
-    }
-}
-
-/// Writes the pages of the file as an LTX file under this header, and answers the number of the last one.
-fn write_file(rt: &HostRuntime, head: &[u8], source: &str, target: &str) -> io::Result<u32> {
-    let header = plain_header(head)?;
-    let mut from = File::open(rt, source)?;
-    let mut into = File::create(rt, target)?;
-    let mut piece = vec![in rt.alloc(); 0u8; PIECE_BYTES]?;
-    let mut blocks = Vec::new(rt.alloc());
-    let mut front = [0; 100];
-    let mut writer = LtxWriter::begin(&header, &mut front);
-    into.write_all(&front)?;
-    let mut last = 0;
-    for _ in 0..u64::MAX {
-        let count = from.read(&mut piece)?;
-        if count == 0 {
-            break;
-        }
-        last = put_pages(&mut writer, &header, last, &piece[..count], &mut blocks)?;
-        into.write_all(&blocks)?;
-        blocks.clear();
-    }
-    into.write_all(&writer.finish())?;
-    Ok(last)
 }

@@ -1,9 +1,9 @@
 //! Bytes of real files, read and written until all of them have gone through the system.
 
-ghost use Rattle.std.specs.Prelude.{◌≡◌, ◌↔◌, ◌≤◌, ◌^◌, Some, length, IfOk, IsErr};
+ghost use Rattle.std.specs.Prelude.{◌≡◌, ◌↔◌, ◌<◌, ◌≤◌, ◌^◌, Some, length, IfOk, IsErr};
 
 use std::fs::File;
-use std::io::{self, ErrorKind, Write};
+use std::io::{self, ErrorKind};
 use std::os::unix::fs::FileExt;
 
 /// The length in bytes that no file may have, and the offset where none goes on.
@@ -19,6 +19,15 @@ pub fn within_limit(size: u64) -> io::Result<Option<u64>>
     } else {
         Err(ErrorKind::FileTooLarge.into())
     }
+}
+
+/// The length of an open file in bytes.
+pub fn size_of(file: &File) -> io::Result<u64>
+    ensures bound { IfOk result (λ n. n < 2 ^ 63) }
+{
+    let size = file.metadata()?.len();
+    within_limit(size)?;
+    Ok(size)
 }
 
 /// Absence is as good as success.
@@ -50,16 +59,20 @@ pub fn fill(file: &File, at: u64, into: &mut [u8]) -> io::Result<usize>
     Err(ErrorKind::TimedOut.into())
 }
 
-/// Writes all the bytes from the file's position on.
-pub fn write_whole(file: &mut File, bytes: &[u8]) -> io::Result<()> {
+/// Writes all the bytes from an offset on, whatever the file's position is.
+pub fn write_whole(file: &File, at: u64, bytes: &[u8]) -> io::Result<()> {
+    let mut offset = at;
     let mut rest = bytes;
     for _ in 0..u64::MAX {
         if rest.is_empty() {
             return Ok(());
         }
-        match file.write(rest) {
+        match file.write_at(rest, offset) {
             Ok(0) => return Err(ErrorKind::WriteZero.into()),
-            Ok(count) => rest = &rest[count..],
+            Ok(count) => {
+                rest = &rest[count..];
+                offset = offset.saturating_add(count as u64);
+            }
             Err(error) if error.kind() == ErrorKind::Interrupted => {}
             Err(error) => return Err(error),
         }

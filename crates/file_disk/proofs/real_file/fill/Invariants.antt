@@ -1,5 +1,5 @@
 use Rattle.std.proofs.Common.{◌≤◌, length, ◌≡◌}
-use Rattle.litestream_main.proofs.real_file.fill.Given as goal
+use Rattle.file_disk.proofs.real_file.fill.Given as goal
 
 -- the bytes that were read stand in the buffer, whose length stays
 abbrev pub invariant-loop : goal.invariant-loop
