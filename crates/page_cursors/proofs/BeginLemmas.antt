@@ -14,7 +14,7 @@ use Rattle.page_cursors.specs.declared.opening.Odd.{Odd}
 use Rattle.page_cursors.specs.declared.opening.Opened.{Opened}
 use Rattle.page_cursors.specs.Cursor.{HaveSize, commit_of}
 use Rattle.ls_base.specs.Fault.{Rose}
-use Rattle.page_cursors.specs.Fault.{Blames, CursorsHaveCause, FaultHasCause}
+use Rattle.page_cursors.specs.Fault.{Blames, CursorsHaveCause, FaultHasCause, TellsNoMissing}
 use Rattle.page_cursors.specs.Opening.{AreOpened, HaveBegun, CoversPlan, ExplainsOpening, commits_from}
 use Rattle.page_cursors.specs.Queue.{AreFresh}
 use Rattle.page_cursors.proofs.OddLemmas.{same_size}
@@ -113,3 +113,15 @@ cause_behind before mid now fault low cause = record {
 
 pub no_cause : {T : Type 0} (before now : ℕ) (x : T) → before ≤ now → CursorsHaveCause before now (Ok x)
 no_cause before now x low = record { later = low; rose = λ why is. absurd cc }
+
+-- no page is missing where none is told to be
+pub no_missing_of : {T U : Type 0} (r : Result T CursorsFault) (e : CursorsFault) → IsErrAnd r (λ x. x ≡ e)
+    → TellsNoMissing {T = U} (Err e) → TellsNoMissing {T = T} r
+no_missing_of (Ok x) e holds none = absurd holds
+no_missing_of (Err x) e holds none = λ name number is. none name number
+    (ap (λ (y : CursorsFault). Err y) (sym holds ∙ same_fault x (PageMissing name number) is))
+
+pub no_missing_found : {T : Type 0} (before now : ℕ) (fault : CursorsFault) → FaultHasCause before now fault
+    → TellsNoMissing {T = T} (Err fault)
+no_missing_found before now fault cause = λ name number is. cause.no_missing name number
+    (same_fault fault (PageMissing name number) is)

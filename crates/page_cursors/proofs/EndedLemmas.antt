@@ -15,7 +15,7 @@ use Rattle.page_cursors.specs.declared.fault.CursorsFault.{CursorsFault}
 use Rattle.page_cursors.specs.declared.fault.CursorsFault.TheVariants.{Damaged, PageMissing, Store, Memory}
 use Rattle.page_cursors.specs.Blocks.{Blocks}
 use Rattle.page_cursors.specs.Cursor.{WaitsNext}
-use Rattle.page_cursors.specs.Cursors.{HaveShape, HaveGiven, HaveRead, plan_of}
+use Rattle.page_cursors.specs.Cursors.{HaveShape, HaveGiven, HaveRead, HaveAllRead, plan_of}
 use Rattle.page_cursors.specs.Ending.{AllHold, IsLackingAt, LacksAt}
 use Rattle.page_cursors.specs.Fault.{Blames}
 use Rattle.page_cursors.specs.LastPages.{last_commit}
@@ -24,7 +24,7 @@ use Rattle.page_cursors.specs.Queue.{NoneWaits}
 use Rattle.page_cursors.proofs.DamageLemmas.{same_events}
 use Rattle.page_cursors.proofs.MissingLemmas.{first_missing, same_some}
 use Rattle.page_cursors.proofs.NextLemmas.{front_at}
-use Rattle.page_cursors.proofs.ReadLemmas.{read_all}
+use Rattle.page_cursors.proofs.ReadLemmas.{AreReadBy, read_all}
 use Rattle.page_cursors.proofs.TakeLemmas.{some_commit}
 
 number_at : (numbers : List (Option ℕ)) (place : ℕ) → place < length numbers
@@ -48,22 +48,40 @@ has_ended files cursors given has shape none place cursor is =
     ended_next cursor cursors.waiting.numbers place cursors.last next.0 next.1 none
     (has.waits place cursor next.0 is next.1)
 
-pub have_read : (files : Files) (cursors : Cursors) (given : Blocks) → HaveGiven files cursors given
-    → HaveShape cursors → NoneWaits cursors.waiting.numbers → AllHold cursors.cursors.items
-    → HaveRead files cursors given
-have_read files cursors given has shape none hold =
-    let all = read_all files cursors.size (cursors.last + 1) 0 cursors.cursors.items has.fronts has.count
+-- each was read to its end
+each_read : (files : Files) (cursors : Cursors) (given : Blocks) (has : HaveGiven files cursors given)
+    → HaveShape cursors → NoneWaits cursors.waiting.numbers
+    → AreReadBy files cursors.size 0 cursors.cursors.items has.fronts
+each_read files cursors given has shape none =
+    read_all files cursors.size (cursors.last + 1) 0 cursors.cursors.items has.fronts has.count
     (λ place commit cursor front is at_commit at_front. (
       has.each place commit cursor front is at_commit at_front,
       has_ended files cursors given has shape none
           place cursor is,
-      hold place cursor is,
-    )) in
+    ))
+
+pub have_all_read : (files : Files) (cursors : Cursors) (given : Blocks) → HaveGiven files cursors given
+    → HaveShape cursors → NoneWaits cursors.waiting.numbers → HaveAllRead files cursors given
+have_all_read files cursors given has shape none =
+    let all = each_read files cursors given has shape none in
     record {
       read = all.read;
       are = all.are;
       one_size = all.one_size;
-      hold = all.hold;
+      ends = same_some (last_commit 0 (map change_of all.read)) cursors.commit (sym all.ends ∙ has.ends);
+      pages = λ p. has.given_is p ∙ all.pages p;
+    }
+
+pub have_read : (files : Files) (cursors : Cursors) (given : Blocks) → HaveGiven files cursors given
+    → HaveShape cursors → NoneWaits cursors.waiting.numbers → AllHold cursors.cursors.items
+    → HaveRead files cursors given
+have_read files cursors given has shape none hold =
+    let all = each_read files cursors given has shape none in
+    record {
+      read = all.read;
+      are = all.are;
+      one_size = all.one_size;
+      hold = all.hold hold;
       ends = same_some (last_commit 0 (map change_of all.read)) cursors.commit (sym all.ends ∙ has.ends);
       pages = λ p. has.given_is p ∙ all.pages p;
     }

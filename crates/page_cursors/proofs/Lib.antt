@@ -10,6 +10,8 @@ pub mod LackingLemmas
 pub mod TakeLemmas
 pub mod NextLemmas
 pub mod ReadLemmas
+pub mod CostLemmas
+pub mod CostListLemmas
 pub mod MissingLemmas
 pub mod EndedLemmas
 pub mod StartLemmas

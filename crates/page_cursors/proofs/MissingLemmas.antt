@@ -122,9 +122,11 @@ first_missing files size bound cursors fronts name number count each lacking com
     let cursor_at = get-take cursors place k c at in
     let front_at = get-take fronts place k f is in
     let facts = each k n c f cursor_at.1 (take-commits 0 place k n cursors commits) front_at.1 in
-    (facts.0, facts.1, lacking.before k c cursor_at.0 cursor_at.1)) in
+    (facts.0, facts.1)) in
     let states = make_states size (map change_of before.read)
-    (one_size_changes size before.read before.one_size) before.hold in
+    (one_size_changes size before.read before.one_size) (before.hold (λ k c at.
+    let cursor_at = get-take cursors place k c at in
+    lacking.before k c cursor_at.0 cursor_at.1)) in
     let reached : length states.0.pages ≡ commit = states.1.count ∙ same_some _ _ (sym before.ends
     ∙ ends_at 0 place cursors commit cursor lacking.is at_commit) in
     record {

@@ -17,7 +17,7 @@ use Rattle.replica_store.specs.FileOf.{IsFileUnder, AreFilesUnder, HavePageSize}
 use Rattle.page_cursors.specs.declared.cursor.Cursor.{Cursor}
 use Rattle.page_cursors.specs.Blocks.{Blocks, numbers_of, page_in, last_in}
 use Rattle.page_cursors.specs.Cursor.{HasGiven, bytes_of, commit_of}
-use Rattle.page_cursors.specs.Ending.{HoldsEach}
+use Rattle.page_cursors.specs.Ending.{HoldsEach, AllHold}
 use Rattle.page_cursors.specs.LastPages.{HoldNew, HoldsNew, last_commit, last_page}
 use Rattle.page_cursors.specs.Opening.{names_of, commits_from}
 use Rattle.page_cursors.proofs.BlockLemmas.{page-held}
@@ -66,7 +66,7 @@ pub record AreReadBy (files : Files) (size before : ℕ) (cursors : List Cursor)
   pub read : List LtxFile
   pub are : AreFilesUnder files (names_of cursors) read
   pub one_size : HavePageSize size read
-  pub hold : HoldNew before (map change_of read)
+  pub hold : AllHold cursors → HoldNew before (map change_of read)
   pub pages : (p : ℕ) → last_in fronts p ≡ last_page (map change_of read) p
   pub ends : slice_get (commits_from before cursors) (length cursors) ≡ Some (last_commit before (map change_of read))
 
@@ -75,7 +75,7 @@ EachEnded files size bound before cursors fronts =
     (place commit : ℕ) (cursor : Cursor) (front : Blocks) → slice_get cursors place ≡ Some cursor
     → slice_get (commits_from before cursors) place ≡ Some commit
     → slice_get fronts place ≡ Some front → HasGiven files size bound commit cursor front ×
-    (cursor.reader.progress ≡ Ended) × HoldsEach cursor
+    (cursor.reader.progress ≡ Ended)
 
 pub read_all : (files : Files) (size bound before : ℕ) (cursors : List Cursor) (fronts : List Blocks)
     → length fronts ≡ length cursors → EachEnded files size bound before cursors fronts
@@ -84,7 +84,7 @@ read_all files size bound before [] [] count each = record {
   read = [];
   are = tt;
   one_size = tt;
-  hold = tt;
+  hold = λ all. tt;
   pages = λ
       p. refl;
   ends = refl;
@@ -101,10 +101,10 @@ read_all files size bound before (cursor ∷ cursors) (front ∷ fronts) count e
       read = first.file ∷ rest.read;
       are = (first.under, rest.are);
       one_size = (ap (λ (h : LtxHeader). h.size) first.header ∙ here.0.open_file.sized, rest.one_size);
-      hold = (
-        holds_new files size bound before cursor front here.0 here.2 first,
+      hold = λ all. (
+        holds_new files size bound before cursor front here.0 (all zero cursor refl) first,
         subst (λ (n : ℕ). HoldNew n
-            (map change_of rest.read)) (sym same) rest.hold,
+            (map change_of rest.read)) (sym same) (rest.hold (λ place c is. all (suc place) c is)),
       );
       pages = λ p. ap (λ (o : Option (List ℕ)). option_or o (page_in front p)) (rest.pages p)
           ∙ ap (λ (o : Option (List ℕ)). option_or (last_page (map change_of rest.read) p) o) (sym (first.pages p));

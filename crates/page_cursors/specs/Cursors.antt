@@ -58,6 +58,15 @@ pub record HaveRead (files : Files) (cursors : Cursors) (given : Blocks) : Type 
   pub ends : last_commit 0 (map change_of read) ≡ cursors.commit
   pub pages : (p : ℕ) → page_in given p ≡ last_page (map change_of read) p
 
+-- All files were read to their ends, and none is damaged. These are the last pages of each number, whether or not the
+-- files fit one another.
+pub record HaveAllRead (files : Files) (cursors : Cursors) (given : Blocks) : Type 0 where
+  pub read : List LtxFile
+  pub are : AreFilesUnder files (plan_of cursors) read
+  pub one_size : HavePageSize cursors.size read
+  pub ends : last_commit 0 (map change_of read) ≡ cursors.commit
+  pub pages : (p : ℕ) → page_in given p ≡ last_page (map change_of read) p
+
 -- plan, page size and size of the last file are as before
 pub record SamePlan (old new : Cursors) : Type 0 where
   pub plan : plan_of new ≡ plan_of old

@@ -22,11 +22,16 @@ Blames told plan (PageMissing name number) = IfTold told (λ events. IsFirstMiss
 Blames told plan (Store fault) = ⊤
 Blames told plan Memory = ⊤
 
--- the same of a fault that is told: it is never want of memory
+-- the same of a fault that is found while files are read: it is never want of memory, nor a page that is missing
 pub record FaultHasCause (before now : ℕ) (found : CursorsFault) : Type 0 where
   pub later : before ≤ now
   pub rose : (fault : DiskFault) → found ≡ Store fault → Rose before now
   pub no_memory : found ≡ Memory → ⊥
+  pub no_missing : (name : FileName) (number : ℕ) → found ≡ PageMissing name number → ⊥
+
+-- no page is told to be missing
+abbrev pub TellsNoMissing : {T : Type 0} → Result T CursorsFault → Type 0
+TellsNoMissing result = (name : FileName) (number : ℕ) → IsErrOf result (PageMissing name number) → ⊥
 
 -- the fault is one of the disk
 abbrev pub IsStoreFault : CursorsFault → Type 0

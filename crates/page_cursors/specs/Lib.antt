@@ -5,6 +5,7 @@ pub mod Blocks
 pub mod PlanFiles
 pub mod Cursor
 pub mod Opening
+pub mod Costs
 pub mod Fault
 pub mod Ending
 pub mod Cursors

@@ -1,13 +1,14 @@
 //! One file of a plan, gone through page by page.
 
-ghost use Rattle.std.specs.Prelude.{◌≡◌, ◌+◌, ◌<◌, ◌≤◌, Some, length, IfOk, IfErr, IsErrOf, ℕ};
+ghost use Rattle.std.specs.Prelude.{◌≡◌, ◌+◌, ◌<◌, ◌≤◌, Some, length, take, IfOk, IfErr, IsErrOf, ℕ};
 ghost use Rattle.crash_disk.specs.Files.{files_after};
 ghost use Rattle.crash_disk.specs.Told.{IfTold};
 ghost use Rattle.ltx_reader.specs.ReaderCause.{ReadHasCause};
 ghost use Rattle.ltx_reader.specs.declared.read_fault.ReadFault.TheVariants as fault;
 ghost use Rattle.replica_store.specs.declared.file_name.FileName.{FileName};
 ghost use Rattle.page_cursors.specs.Cursor.{ReadsFile, GivesPage, KeepsFile, HasEnded, TellsFileFault, HaveSize};
-ghost use Rattle.page_cursors.specs.Cursor.{AreMoved, GivesAt, AsksAt, FailsAt};
+ghost use Rattle.page_cursors.specs.Cursor.{AreMoved, GivesAt, AsksAt, FailsAt, bytes_of};
+ghost use Rattle.page_cursors.specs.Costs.{Takes, IsCounted, AreCounted, nothing, cost_left, left_of, left_of_all};
 
 use crate::wanted::Wanted;
 use crash_disk::Disk;
@@ -40,6 +41,15 @@ pub fn give<S: Disk, L: Ledger>(
         (files_after events) cursor.old.name cursor.old.reader
         → TellsFileFault (files_after events) cursor.old.name e)) }
     ensures same_file { KeepsFile cursor.old cursor.new }
+    ensures takes { IfOk result (λ _. IfTold (S.told store.old) (λ events.
+        IsCounted (files_after events) cursor.old.name cursor.old.reader
+        → IsCounted (files_after events) cursor.new.name cursor.new.reader
+        × Takes (left_of (files_after events) cursor.old) (left_of (files_after events) cursor.new)
+        steps.old steps.new (S.given store.old) (S.given store.new))) }
+    ensures spends { IfErr result (λ _. IfTold (S.told store.old) (λ events.
+        IsCounted (files_after events) cursor.old.name cursor.old.reader
+        → Takes (left_of (files_after events) cursor.old) nothing
+        steps.old steps.new (S.given store.old) (S.given store.new))) }
     ensures no_memory { IsErrOf result fault.Memory → ⊥ }
     ensures unchanged { S.told store.new ≡ S.told store.old }
     ensures same_folder { S.folder store.new ≡ S.folder store.old }
@@ -66,6 +76,14 @@ pub fn give_at<S: Disk, L: Ledger>(
     ensures fault { IfErr result (λ e. IfTold (S.told store.old) (λ events. FailsAt
         (files_after events) place cursors.old e)) }
     ensures same { AreMoved place cursors.old cursors.new }
+    ensures takes { IfOk result (λ _. IfTold (S.told store.old) (λ events. AreCounted (files_after events) cursors.old
+        → AreCounted (files_after events) cursors.new
+        × Takes (left_of_all (files_after events) cursors.old) (left_of_all (files_after events) cursors.new)
+        steps.old steps.new (S.given store.old) (S.given store.new))) }
+    ensures spends { IfErr result (λ _. IfTold (S.told store.old) (λ events. AreCounted (files_after events) cursors.old
+        → AreCounted (files_after events) (take place cursors.new)
+        × Takes (left_of_all (files_after events) cursors.old)
+        (left_of_all (files_after events) (take place cursors.new)) steps.old steps.new (S.given store.old) (S.given store.new))) }
     ensures no_memory { IsErrOf result fault.Memory → ⊥ }
     ensures unchanged { S.told store.new ≡ S.told store.old }
     ensures same_folder { S.folder store.new ≡ S.folder store.old }
@@ -86,6 +104,14 @@ pub fn ask_at<S: Disk>(
     ensures fault { IfErr result (λ e. IfTold (S.told store.old) (λ events. FailsAt
         (files_after events) place cursors.old e)) }
     ensures same { AreMoved place cursors.old cursors.new }
+    ensures takes { IfOk result (λ _. IfTold (S.told store.old) (λ events. AreCounted (files_after events) cursors.old
+        → AreCounted (files_after events) cursors.new
+        × Takes (left_of_all (files_after events) cursors.old) (left_of_all (files_after events) cursors.new)
+        0 0 (S.given store.old) (S.given store.new))) }
+    ensures spends { IfErr result (λ _. IfTold (S.told store.old) (λ events. AreCounted (files_after events) cursors.old
+        → AreCounted (files_after events) (take place cursors.new)
+        × Takes (left_of_all (files_after events) cursors.old)
+        (left_of_all (files_after events) (take place cursors.new)) 0 0 (S.given store.old) (S.given store.new))) }
     ensures no_memory { IsErrOf result fault.Memory → ⊥ }
     ensures unchanged { S.told store.new ≡ S.told store.old }
     ensures same_folder { S.folder store.new ≡ S.folder store.old }
@@ -108,6 +134,10 @@ pub fn read_to_end<S: Disk, L: Ledger>(
         → ReadsFile (files_after events) name reader.old → TellsFileFault (files_after events) name e)) }
     ensures name { reader.new.name ≡ reader.old.name }
     ensures header { reader.new.header ≡ reader.old.header }
+    ensures spends { IfTold (S.told store.old) (λ events. (name : FileName)
+        → IsCounted (files_after events) name reader.old
+        → Takes (cost_left (bytes_of (files_after events) name) reader.old) nothing
+        steps.old steps.new (S.given store.old) (S.given store.new)) }
     ensures no_memory { IsErrOf result fault.Memory → ⊥ }
     ensures unchanged { S.told store.new ≡ S.told store.old }
     ensures same_folder { S.folder store.new ≡ S.folder store.old }

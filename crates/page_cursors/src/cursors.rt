@@ -1,6 +1,6 @@
 //! The pages of many files.
 
-ghost use Rattle.std.specs.Prelude.{◌≡◌, ◌≢◌, ◌++◌, ◌∷◌, ◌≤◌, ◌<◌, ◌+◌, [], ℕ, length, IfOk, IfErr, IfSome, OnOk};
+ghost use Rattle.std.specs.Prelude.{◌≡◌, ◌≢◌, ◌++◌, ◌∷◌, ◌≤◌, ◌<◌, ◌+◌, ◌*◌, [], ℕ, length, IfOk, IfErr, IfSome, OnOk};
 ghost use Rattle.std.specs.Prelude.{IsErrOf};
 ghost use Rattle.std.specs.Option.{IfNone};
 ghost use Rattle.crash_disk.specs.Files.{files_after};
@@ -8,11 +8,13 @@ ghost use Rattle.crash_disk.specs.Told.{IfTold};
 ghost use Rattle.page_cursors.specs.declared.fault.CursorsFault.TheVariants as fault;
 ghost use Rattle.page_cursors.specs.Blocks.{Blocks};
 ghost use Rattle.page_cursors.specs.Cursors.{HaveShape, AreReady, HaveGiven, HaveRead, AreTaking, HaveTaken};
-ghost use Rattle.page_cursors.specs.Cursors.{HaveAllTaken, IsUntouched, SamePlan, EndWith, plan_of};
+ghost use Rattle.ltx_reader.specs.ReaderGiven.{GivesAtMost};
+ghost use Rattle.page_cursors.specs.Cursors.{HaveAllRead, HaveAllTaken, IsUntouched, SamePlan, EndWith, plan_of};
 ghost use Rattle.page_cursors.specs.Cursor.{HaveSize};
+ghost use Rattle.page_cursors.specs.Costs.{Takes, AreCounted, nothing, plan_cost, left_of_all};
 ghost use Rattle.page_cursors.specs.Opening.{HaveBegun};
 ghost use Rattle.page_cursors.specs.Queue.{Waits, AreFresh};
-ghost use Rattle.page_cursors.specs.Fault.{CursorsHaveCause, Blames};
+ghost use Rattle.page_cursors.specs.Fault.{CursorsHaveCause, Blames, TellsNoMissing};
 
 use crate::cursor::{Cursor, ask_at, give_at};
 use crate::ending::{LARGEST_PAGE, damage_at, lacking, odd_fault};
@@ -56,6 +58,17 @@ impl Cursors {
             (files_after events) cursors [])) }
         ensures plan { IfOk result (λ cursors. plan_of cursors ≡ plan.now) }
         ensures explained { IfErr result (Blames (S.told store.old) plan.now) }
+        ensures counted { IfOk result (λ cursors. IfTold (S.told store.old) (λ events. AreCounted
+            (files_after events) cursors.cursors.items)) }
+        ensures takes { IfOk result (λ cursors. IfTold (S.told store.old) (λ events. Takes
+            (plan_cost (files_after events) plan.now) (left_of_all (files_after events) cursors.cursors.items)
+            steps.old steps.new (S.given store.old) (S.given store.new))) }
+        ensures spends { IfErr result (λ _. IfTold (S.told store.old) (λ events. Takes
+            (plan_cost (files_after events) plan.now) nothing
+            steps.old steps.new (S.given store.old) (S.given store.new))) }
+        ensures little { IsErrOf result fault.Memory → GivesAtMost (100 * length plan.now)
+            (S.given store.old) (S.given store.new) }
+        ensures no_missing { TellsNoMissing result }
         ensures unchanged { S.told store.new ≡ S.told store.old }
         ensures same_folder { S.folder store.new ≡ S.folder store.old }
         ensures cause { CursorsHaveCause (S.fault_count store.old) (S.fault_count store.new) result }
@@ -114,7 +127,18 @@ impl Cursors {
             (files_after events) self.old.size 0 self.old.cursors.items
             → Blames (S.told store.old) (plan_of self.old) e)) }
         ensures same { OnOk result (SamePlan self.old self.new) }
+        ensures takes { IfOk result (λ _. IfTold (S.told store.old) (λ events.
+            AreCounted (files_after events) self.old.cursors.items
+            → AreCounted (files_after events) self.new.cursors.items
+            × Takes (left_of_all (files_after events) self.old.cursors.items)
+            (left_of_all (files_after events) self.new.cursors.items)
+            steps.old steps.new (S.given store.old) (S.given store.new))) }
+        ensures spends { IfErr result (λ _. IfTold (S.told store.old) (λ events.
+            AreCounted (files_after events) self.old.cursors.items
+            → Takes (left_of_all (files_after events) self.old.cursors.items) nothing
+            steps.old steps.new (S.given store.old) (S.given store.new))) }
         ensures no_memory { IsErrOf result fault.Memory → ⊥ }
+        ensures no_missing { TellsNoMissing result }
         ensures unchanged { S.told store.new ≡ S.told store.old }
         ensures same_folder { S.folder store.new ≡ S.folder store.old }
         ensures cause { CursorsHaveCause (S.fault_count store.old) (S.fault_count store.new) result }
@@ -162,7 +186,18 @@ impl Cursors {
             → HaveTaken (files_after events) self.old number from given
             → Blames (S.told store.old) (plan_of self.old) e)) }
         ensures same { OnOk result (SamePlan self.old self.new) }
+        ensures costs { IfOk result (λ _. IfTold (S.told store.old) (λ events.
+            AreCounted (files_after events) self.old.cursors.items
+            → AreCounted (files_after events) self.new.cursors.items
+            × Takes (left_of_all (files_after events) self.old.cursors.items)
+            (left_of_all (files_after events) self.new.cursors.items)
+            steps.old steps.new (S.given store.old) (S.given store.new))) }
+        ensures spends { IfErr result (λ _. IfTold (S.told store.old) (λ events.
+            AreCounted (files_after events) self.old.cursors.items
+            → Takes (left_of_all (files_after events) self.old.cursors.items) nothing
+            steps.old steps.new (S.given store.old) (S.given store.new))) }
         ensures no_memory { IsErrOf result fault.Memory → ⊥ }
+        ensures no_missing { TellsNoMissing result }
         ensures unchanged { S.told store.new ≡ S.told store.old }
         ensures same_folder { S.folder store.new ≡ S.folder store.old }
         ensures cause { CursorsHaveCause (S.fault_count store.old) (S.fault_count store.new) result }
@@ -210,7 +245,18 @@ impl Cursors {
             → HaveTaken (files_after events) self.old number 0 given
             → Blames (S.told store.old) (plan_of self.old) e)) }
         ensures same { OnOk result (SamePlan self.old self.new) }
+        ensures takes { IfOk result (λ _. IfTold (S.told store.old) (λ events.
+            AreCounted (files_after events) self.old.cursors.items
+            → AreCounted (files_after events) self.new.cursors.items
+            × Takes (left_of_all (files_after events) self.old.cursors.items)
+            (left_of_all (files_after events) self.new.cursors.items)
+            steps.old steps.new (S.given store.old) (S.given store.new))) }
+        ensures spends { IfErr result (λ _. IfTold (S.told store.old) (λ events.
+            AreCounted (files_after events) self.old.cursors.items
+            → Takes (left_of_all (files_after events) self.old.cursors.items) nothing
+            steps.old steps.new (S.given store.old) (S.given store.new))) }
         ensures no_memory { IsErrOf result fault.Memory → ⊥ }
+        ensures no_missing { TellsNoMissing result }
         ensures unchanged { S.told store.new ≡ S.told store.old }
         ensures same_folder { S.folder store.new ≡ S.folder store.old }
         ensures cause { CursorsHaveCause (S.fault_count store.old) (S.fault_count store.new) result }
@@ -244,6 +290,16 @@ impl Cursors {
             → HaveGiven (files_after events) self.old given → HaveRead (files_after events) self.old given))) }
         ensures explained { IfErr result (λ e. IfTold (S.told store.old) (λ events. (given : Blocks)
             → HaveGiven (files_after events) self.old given → Blames (S.told store.old) (plan_of self.old) e)) }
+        ensures takes { IfOk result (λ _. IfTold (S.told store.old) (λ events.
+            AreCounted (files_after events) self.old.cursors.items
+            → AreCounted (files_after events) self.new.cursors.items
+            × Takes (left_of_all (files_after events) self.old.cursors.items)
+            (left_of_all (files_after events) self.new.cursors.items)
+            steps.old steps.new (S.given store.old) (S.given store.new))) }
+        ensures spends { IfErr result (λ _. IfTold (S.told store.old) (λ events.
+            AreCounted (files_after events) self.old.cursors.items
+            → Takes (left_of_all (files_after events) self.old.cursors.items) nothing
+            steps.old steps.new (S.given store.old) (S.given store.new))) }
         ensures no_memory { IsErrOf result fault.Memory → ⊥ }
         ensures same { OnOk result (SamePlan self.old self.new) }
         ensures unchanged { S.told store.new ≡ S.told store.old }
@@ -252,6 +308,39 @@ impl Cursors {
     {
         let Some(number) = self.waiting.least() else {
             lacking(&self.cursors)?;
+            return Ok(None);
+        };
+        self.take_all(store, number, steps)?;
+        self.last = number;
+        Ok(Some(number))
+    }
+
+    /// The same for files that need not make a state from nothing: no page of them is missing, and `None` says that
+    /// all files were read to their ends and that none is damaged.
+    pub fn next_of_run<S: Disk, L: Ledger>(
+        &mut self,
+        store: &mut S,
+        steps: &mut Steps<L>,
+    ) -> Result<Option<u32>, CursorsFault>
+        requires ready { AreReady self.old }
+        ensures ready { IfOk result (λ _. AreReady self.new) }
+        ensures rises { IfOk result (λ next. IfSome next (λ number. (self.old.last < number) ×
+            (self.new.last ≡ number))) }
+        ensures gives { IfOk result (λ next. IfSome next (λ number. IfTold (S.told store.old) (λ events.
+            (given : Blocks) → HaveGiven (files_after events) self.old given
+            → HaveGiven (files_after events) self.new (given ++ (number, self.new.page.items) ∷ [])))) }
+        ensures ended { IfOk result (λ next. IfNone next (IfTold (S.told store.old) (λ events. (given : Blocks)
+            → HaveGiven (files_after events) self.old given → HaveAllRead (files_after events) self.old given))) }
+        ensures explained { IfErr result (λ e. IfTold (S.told store.old) (λ events. (given : Blocks)
+            → HaveGiven (files_after events) self.old given → Blames (S.told store.old) (plan_of self.old) e)) }
+        ensures no_memory { IsErrOf result fault.Memory → ⊥ }
+        ensures no_missing { TellsNoMissing result }
+        ensures same { OnOk result (SamePlan self.old self.new) }
+        ensures unchanged { S.told store.new ≡ S.told store.old }
+        ensures same_folder { S.folder store.new ≡ S.folder store.old }
+        ensures cause { CursorsHaveCause (S.fault_count store.old) (S.fault_count store.new) result }
+    {
+        let Some(number) = self.waiting.least() else {
             return Ok(None);
         };
         self.take_all(store, number, steps)?;

@@ -1,10 +1,11 @@
 //! Which fault of a plan's files is told.
 
-ghost use Rattle.std.specs.Prelude.{◌≡◌, ◌<◌, ℕ, List, Some, length, IfOk, IfErr};
+ghost use Rattle.std.specs.Prelude.{◌≡◌, ◌<◌, ℕ, List, Some, length, take, IfOk, IfErr};
 ghost use Rattle.crash_disk.specs.Files.{files_after};
 ghost use Rattle.crash_disk.specs.Told.{IfTold};
 ghost use Rattle.replica_store.specs.declared.file_name.FileName.{FileName};
 ghost use Rattle.page_cursors.specs.Cursor.{HaveSize};
+ghost use Rattle.page_cursors.specs.Costs.{Takes, AreCounted, OddIsCounted, nothing, both, left_of_all, odd_left};
 ghost use Rattle.page_cursors.specs.Ending.{FindsFault, BlamesAt, AllHold, LacksAt};
 ghost use Rattle.page_cursors.specs.Fault.{Blames, CursorsHaveCause, FaultHasCause, IsStoreFault};
 ghost use Rattle.page_cursors.specs.Opening.{HaveBegun, CoversPlan, IsOdd, IsOddDamage};
@@ -34,6 +35,9 @@ fn first_damage<S: Disk, L: Ledger>(
     requires sized { HaveSize (length page.old) cursors.old }
     ensures blames { IfTold (S.told store.old) (λ events. FindsFault (files_after events) (S.told store.old)
         (length page.old) cursors.old name damage result) }
+    ensures spends { IfTold (S.told store.old) (λ events. AreCounted (files_after events) cursors.old
+        → Takes (left_of_all (files_after events) cursors.old) nothing
+        steps.old steps.new (S.given store.old) (S.given store.new)) }
     ensures unchanged { S.told store.new ≡ S.told store.old }
     ensures same_folder { S.folder store.new ≡ S.folder store.old }
     ensures cause { FaultHasCause (S.fault_count store.old) (S.fault_count store.new) result }
@@ -64,6 +68,9 @@ pub fn damage_at<S: Disk, L: Ledger>(
     requires sized { HaveSize (length page.old) cursors.old }
     ensures blames { IfTold (S.told store.old) (λ events. BlamesAt (files_after events) (S.told store.old)
         (length page.old) cursors.old place fault result) }
+    ensures spends { IfTold (S.told store.old) (λ events. AreCounted (files_after events) (take place cursors.old)
+        → Takes (left_of_all (files_after events) (take place cursors.old)) nothing
+        steps.old steps.new (S.given store.old) (S.given store.new)) }
     ensures unchanged { S.told store.new ≡ S.told store.old }
     ensures same_folder { S.folder store.new ≡ S.folder store.old }
     ensures cause { FaultHasCause (S.fault_count store.old) (S.fault_count store.new) result }
@@ -90,6 +97,9 @@ fn odd_damage<S: Disk, L: Ledger>(
     requires room { length page.old ≡ LARGEST_PAGE }
     ensures damage { IfOk result (λ damage. IfTold (S.told store.old) (λ events. (size : ℕ)
         → IsOdd (files_after events) size odd → IsOddDamage (files_after events) size odd damage)) }
+    ensures spends { IfTold (S.told store.old) (λ events. OddIsCounted (files_after events) odd.name odd.reader
+        → Takes (odd_left (files_after events) odd.name odd.reader) nothing
+        steps.old steps.new (S.given store.old) (S.given store.new)) }
     ensures store { IfErr result IsStoreFault }
     ensures unchanged { S.told store.new ≡ S.told store.old }
     ensures same_folder { S.folder store.new ≡ S.folder store.old }
@@ -122,6 +132,11 @@ pub fn odd_fault<S: Disk, L: Ledger>(
     ensures blames { IfTold (S.told store.old) (λ events. (size : ℕ) (plan : List FileName)
         → HaveBegun (files_after events) size 0 cursors.old
         → CoversPlan (files_after events) size plan cursors.old (Some odd) → Blames (S.told store.old) plan result) }
+    ensures spends { IfTold (S.told store.old) (λ events. AreCounted (files_after events) cursors.old
+        → OddIsCounted (files_after events) odd.name odd.reader
+        → Takes (both (left_of_all (files_after events) cursors.old)
+        (odd_left (files_after events) odd.name odd.reader)) nothing
+        steps.old steps.new (S.given store.old) (S.given store.new)) }
     ensures unchanged { S.told store.new ≡ S.told store.old }
     ensures same_folder { S.folder store.new ≡ S.folder store.old }
     ensures cause { FaultHasCause (S.fault_count store.old) (S.fault_count store.new) result }

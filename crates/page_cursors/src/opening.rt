@@ -1,11 +1,13 @@
 //! Opening the files of a plan.
 
-ghost use Rattle.std.specs.Prelude.{◌≡◌, None, ℕ, length, IfOk, IfErr};
+ghost use Rattle.std.specs.Prelude.{◌≡◌, ◌*◌, None, ℕ, length, IfOk, IfErr};
 ghost use Rattle.crash_disk.specs.Files.{files_after};
 ghost use Rattle.crash_disk.specs.Told.{IfTold};
 ghost use Rattle.page_cursors.specs.Opening.{AreOpened, IsFound, IsNamed, HasSizeOf, ExplainsOpening, doubt_of};
 ghost use Rattle.page_cursors.specs.Opening.{names_of};
-ghost use Rattle.page_cursors.specs.Cursor.{HaveSize};
+ghost use Rattle.ltx_reader.specs.ReaderGiven.{GivesAtMost};
+ghost use Rattle.page_cursors.specs.Cursor.{HaveSize, bytes_of};
+ghost use Rattle.page_cursors.specs.Costs.{Takes, FoundCosts, OpenedCosts, nothing, file_cost, plan_cost};
 ghost use Rattle.page_cursors.specs.Fault.{CursorsHaveCause};
 
 use crate::cursor::Cursor;
@@ -66,6 +68,11 @@ fn open_file<S: Disk>(
         (files_after events) name.now size pages found)) }
     ensures sized { IfOk result (HasSizeOf size) }
     ensures named { IfOk result (IsNamed name.now) }
+    ensures costs { IfOk result (λ found. IfTold (S.told store.old) (λ events. FoundCosts
+        (files_after events) name.now found (S.given store.old) (S.given store.new))) }
+    ensures spends { IfErr result (λ _. IfTold (S.told store.old) (λ events. Takes
+        (file_cost (bytes_of (files_after events) name.now)) nothing 0 0 (S.given store.old) (S.given store.new))) }
+    ensures gave { GivesAtMost 100 (S.given store.old) (S.given store.new) }
     ensures explained { IfErr result ExplainsOpening }
     ensures unchanged { S.told store.new ≡ S.told store.old }
     ensures same_folder { S.folder store.new ≡ S.folder store.old }
@@ -110,6 +117,11 @@ pub fn open<S: Disk>(
     ensures names { IfOk result (λ opened. opened.odd ≡ None → names_of opened.cursors.items ≡ plan.now) }
     ensures count { IfOk result (λ opened. opened.odd ≡ None → length opened.cursors.items ≡ length plan.now) }
     ensures one_size { IfOk result (λ opened. (size : ℕ) × HaveSize size opened.cursors.items) }
+    ensures costs { IfOk result (λ opened. IfTold (S.told store.old) (λ events. OpenedCosts
+        (files_after events) plan.now opened (S.given store.old) (S.given store.new))) }
+    ensures spends { IfErr result (λ _. IfTold (S.told store.old) (λ events. Takes
+        (plan_cost (files_after events) plan.now) nothing 0 0 (S.given store.old) (S.given store.new))) }
+    ensures gave { GivesAtMost (100 * length plan.now) (S.given store.old) (S.given store.new) }
     ensures explained { IfErr result ExplainsOpening }
     ensures unchanged { S.told store.new ≡ S.told store.old }
     ensures same_folder { S.folder store.new ≡ S.folder store.old }

@@ -3,6 +3,7 @@ use Rattle.crash_disk.specs.Files.{files_after}
 use Rattle.crash_disk.specs.Told.{IfTold}
 use Rattle.replica_store.specs.declared.file_name.FileName.{FileName}
 use Rattle.page_cursors.specs.Cursor.{ReadsFile, bytes_of}
+use Rattle.page_cursors.specs.Costs.{IsCounted, Takes, cost_left}
 use Rattle.page_cursors.proofs.EndLemmas.{ReadsOn}
 use Rattle.page_cursors.proofs.cursor.read_to_end.Given as goal
 
@@ -11,6 +12,11 @@ invariant-loop g l = record {
   on : IfTold (g.S.Disk.told l.fn.store) (λ events. (name : FileName)
       → ReadsFile (files_after events) name l.fn.reader
       → ReadsOn (bytes_of (files_after events) name) l.counter l.reader);
+  costs : IfTold (g.S.Disk.told l.fn.store) (λ events. (name : FileName)
+      → IsCounted (files_after events) name l.fn.reader → IsCounted (files_after events) name l.reader
+      × Takes (cost_left (bytes_of (files_after events) name) l.fn.reader)
+      (cost_left (bytes_of (files_after events) name) l.reader) l.fn.steps l.steps
+      (g.S.Disk.given l.fn.store) (g.S.Disk.given l.store));
   name : l.reader.name ≡ l.fn.reader.name;
   header : l.reader.header ≡ l.fn.reader.header;
   sized : length l.page ≡ l.fn.reader.header.size;

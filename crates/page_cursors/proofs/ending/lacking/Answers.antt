@@ -14,10 +14,10 @@ returns-in-Some-clause-lacks c = record {
   named = refl;
   before = c.loop-cursor.invariant;
   lacks = λ lock above numbers below wants.
-      let under = subst (λ (h : LtxHeader). AreBelow numbers (h.commit + 1)) (sym c.header-header.ensures) below in (
+      let under = subst (λ (h : LtxHeader). AreBelow numbers (h.commit + 1)) (sym c.header-header.ensures.value) below in (
         c.in-Some.ensures.some lock above numbers under wants,
         subst (λ
-            (h : LtxHeader). c.in-Some.number ≤ h.commit) c.header-header.ensures
+            (h : LtxHeader). c.in-Some.number ≤ h.commit) c.header-header.ensures.value
             (c.in-Some.ensures.within lock above numbers under wants),
       );
 }
@@ -28,9 +28,9 @@ loop-cursor-preserved c =
     (slice_get_read c.args.cursors.now _ c.loop-cursor.cursor-index c.cursor-item.result refl c.loop-cursor-test.true
     c.cursor-item.is)
     (λ lock above numbers below wants.
-    subst (λ (h : LtxHeader). HoldsAll lock above numbers h.commit) c.header-header.ensures
+    subst (λ (h : LtxHeader). HoldsAll lock above numbers h.commit) c.header-header.ensures.value
     (c.in_default.ensures.none lock above numbers (subst (λ (h : LtxHeader). AreBelow numbers (h.commit + 1))
-    (sym c.header-header.ensures) below) wants))
+    (sym c.header-header.ensures.value) below) wants))
 
 pub returns-clause-whole : goal.returns-clause-whole
 returns-clause-whole c = λ k cursor is. c.loop-cursor.invariant k cursor (omega

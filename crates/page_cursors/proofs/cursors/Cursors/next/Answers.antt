@@ -6,6 +6,9 @@ use Rattle.page_cursors.specs.Cursors.{IsUntouched}
 use Rattle.page_cursors.specs.Ending.{AllHold, LacksAt}
 use Rattle.page_cursors.proofs.EndedLemmas.{have_read, blames_missing}
 use Rattle.page_cursors.proofs.NextLemmas.{enter, leave, untouched_taken, err_is}
+use Rattle.page_cursors.specs.Costs.{nothing}
+use Rattle.page_cursors.proofs.CostLemmas.{takes_none}
+use Rattle.page_cursors.proofs.CostListLemmas.{takes_all, err_each}
 use Rattle.page_cursors.proofs.cursors.Cursors.next.Goals as goal
 
 pub returns-in_err-lacking-clause-explained : goal.returns-in_err-lacking-clause-explained
@@ -62,3 +65,18 @@ returns-clause-gives g c = λ events told given has.
     (taken.takes events told given (untouched_taken (files_after events) old first number 0 given same (enter
     (files_after events) old given number has (c.requires.ready.above least.0 number least.1.waits))))
     taken.taking taken.some taken.none refl
+
+pub returns-in_default-clause-takes : goal.returns-in_default-clause-takes
+returns-in_default-clause-takes g c = λ events told counted. (counted, takes_none _ _ _ _ _ refl refl)
+
+pub returns-in_err-lacking-clause-spends : goal.returns-in_err-lacking-clause-spends
+returns-in_err-lacking-clause-spends g c = err_each c.from_residual.result _ (λ events told counted.
+    takes_all _ _ _ _ _ _ (takes_none _ c.args.steps.now c.args.steps.now (g.S.Disk.given c.args.store.now)
+    (g.S.Disk.given c.args.store.now) refl refl))
+
+pub returns-in_err-take_all-clause-spends : goal.returns-in_err-take_all-clause-spends
+returns-in_err-take_all-clause-spends g c = err_each c.from_residual-in_err-take_all.result _ (λ events told counted.
+    c.in_err-take_all.ensures.spends events told counted)
+
+pub returns-clause-takes : goal.returns-clause-takes
+returns-clause-takes g c = λ events told counted. c.in_ok-take_all.ensures.takes events told counted

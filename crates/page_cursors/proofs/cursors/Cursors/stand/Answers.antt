@@ -14,7 +14,7 @@ returns-clause-shape c =
     let first = c.index.result.now in
     let is : slice_get cursors 0 ≡ Some first =
     slice_get-get_or cursors 0 first c.requires.some ∙ ap (λ (x : Cursor). Some x) (sym c.index.ensures) in
-    let size = ap (λ (h : LtxHeader). h.size) c.header.ensures ∙ c.requires.one_size.1 0 first is in
+    let size = ap (λ (h : LtxHeader). h.size) c.header.ensures.value ∙ c.requires.one_size.1 0 first is in
     record {
       count = c.requires.count;
       sized = λ k cursor at. c.requires.one_size.1 k cursor at ∙ sym size;
@@ -35,4 +35,4 @@ returns-clause-ends c =
     slice_get-get_or cursors at last (omega (arith, count, c.requires.some))
     ∙ ap (λ (x : Cursor). Some x) (sym c.index-2.ensures) in
     ends_with cursors last at (omega (arith, count, c.requires.some)) is 0
-    ∙ ap (λ (h : LtxHeader). Some h.commit) (sym c.header-last.ensures)
+    ∙ ap (λ (h : LtxHeader). Some h.commit) (sym c.header-last.ensures.value)

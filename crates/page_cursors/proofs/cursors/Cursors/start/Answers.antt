@@ -1,4 +1,4 @@
-use Rattle.std.proofs.Common.{◌≡◌, ◌<◌, ℕ, List, Some, length, refl, sym, ap, subst, ◌∙◌, arith}
+use Rattle.std.proofs.Common.{◌≡◌, ◌<◌, ℕ, List, Some, length, take, refl, sym, ap, subst, ◌∙◌, arith}
 use Rattle.std.specs.Prelude.{slice_get, slice_set}
 use Rattle.std.specs.Vec.{with_items}
 use Rattle.std.proofs.lemmas.List.{with_items_is, length-set}
@@ -16,6 +16,9 @@ use Rattle.page_cursors.proofs.DamageLemmas.{sized_next}
 use Rattle.page_cursors.proofs.StartLemmas.{none_fresh, begins_started, started_next, have_started, asked_moves}
 use Rattle.page_cursors.proofs.StartLemmas.{above_next, fresh_next, end_with_same, start_fault}
 use Rattle.page_cursors.proofs.TakeLemmas.{same_plan, same_shape, some_commit}
+use Rattle.page_cursors.specs.Costs.{AreCounted, Takes, left_of_all, nothing}
+use Rattle.page_cursors.proofs.CostLemmas.{takes_by, takes_none, takes_then}
+use Rattle.page_cursors.proofs.CostListLemmas.{takes_all, err_each}
 use Rattle.page_cursors.proofs.cursors.Cursors.start.Goals as goal
 
 pub loop-place-init : goal.loop-place-init
@@ -29,6 +32,7 @@ loop-place-init g c = record {
   fresh = c.requires.start.1;
   same = record { plan = refl; size = refl; commit = refl };
   started = λ events told begun. begins_started (files_after events) c.args.self.now begun;
+  costs = λ events told counted. (counted, takes_none _ _ _ _ _ refl refl);
   unchanged = refl;
   same_folder = refl;
   later = omega arith;
@@ -149,6 +153,25 @@ loop-place-preserved g c =
           (c.in-Ok.ensures.asks events (before.unchanged ∙ told))) in
           started_next (files_after events) place old new next (before.started events told begun) low asks
           (asked_moves old new place next asks.moves here c.put_above.ensures.numbers refl refl) commit.0 commit.1;
+      costs = λ events told counted.
+          let files = files_after events in
+          let so_far = before.costs events told counted in
+          let x = g.S.Disk.given c.args.store.now in
+          let y = g.S.Disk.given c.loop-place.store in
+          let z = g.S.Disk.given c.ask_at.new.store in
+          let s = c.args.steps.now in
+          let t = c.loop-place.steps in
+          let asked = c.in-Ok.ensures.takes events (before.unchanged ∙ told)
+          (subst (λ (cs : List Cursor). AreCounted files cs) (sym lent) so_far.0) in
+          let went = subst (λ (cs : List Cursor). Takes (left_of_all files old.cursors.items) (left_of_all files cs) 0 0 y z)
+          (sym kept) (subst (λ (cs : List Cursor). Takes (left_of_all files cs) (left_of_all files c.ask_at.new.cursors)
+          0 0 y z) lent asked.1) in (
+            subst (λ (cs : List Cursor). AreCounted files cs) (sym kept) asked.0,
+            takes_then (left_of_all files c.args.self.now.cursors.items) (left_of_all files old.cursors.items)
+                (left_of_all files new.cursors.items) s t t x y z so_far.1 (takes_by (left_of_all files old.cursors.items)
+                (left_of_all files new.cursors.items) (left_of_all files old.cursors.items) (left_of_all files
+                new.cursors.items) 0 0 t t y z went (omega arith) (omega arith)),
+          );
       unchanged = c.ask_at.ensures.unchanged ∙ before.unchanged;
       same_folder = c.ask_at.ensures.same_folder ∙ before.same_folder;
       later = omega (arith, c.ask_at.ensures.cause.later, before.later);
@@ -160,3 +183,58 @@ returns-clause-begun g c = λ events told begun ends.
     have_started (files_after events) c.loop-place.self c.loop-place.place (before.started events told begun) (omega
     (arith, before.end, c.loop-place-test.false)) before.last
     (before.ends ends)
+
+pub returns-in-Err-Fault-clause-spends : goal.returns-in-Err-Fault-clause-spends
+returns-in-Err-Fault-clause-spends g c = λ events told counted.
+    let files = files_after events in
+    let old = c.loop-place.self in
+    let place = c.loop-place.place in
+    let before = c.loop-place.invariant in
+    let so_far = before.costs events told counted in
+    let lent = c.deref_mut.ensures.value in
+    let kept = with_items_is old.cursors c.ask_at.new.cursors (c.ask_at.auto.cursors ∙ ap length lent
+    ∙ sym old.cursors.ok.0) in
+    let same = c.deref_mut-in-Err-Fault.ensures.value ∙ kept in
+    let x = g.S.Disk.given c.args.store.now in
+    let y = g.S.Disk.given c.loop-place.store in
+    let z = g.S.Disk.given c.ask_at.new.store in
+    let s = c.args.steps.now in
+    let t = c.loop-place.steps in
+    let all = left_of_all files c.args.self.now.cursors.items in
+    let mid = left_of_all files old.cursors.items in
+    let left = left_of_all files (take place c.ask_at.new.cursors) in
+    let asked = c.in-Err-Fault.ensures.spends events (before.unchanged ∙ told)
+    (subst (λ (cs : List Cursor). AreCounted files cs) (sym lent) so_far.0) in
+    let went = subst (λ (cs : List Cursor). Takes (left_of_all files cs) left 0 0 y z) lent asked.1 in
+    let read = c.damage_at.ensures.spends events (c.ask_at.ensures.unchanged ∙ before.unchanged ∙ told)
+    (subst (λ (cs : List Cursor). AreCounted files (take place cs)) (sym same) asked.0) in
+    let rest = subst (λ (cs : List Cursor). Takes (left_of_all files (take place cs)) nothing t c.damage_at.new.steps z
+    (g.S.Disk.given c.damage_at.new.store)) same read in
+    takes_then all mid nothing s t c.damage_at.new.steps x y (g.S.Disk.given c.damage_at.new.store) so_far.1
+    (takes_then mid left nothing t t c.damage_at.new.steps y z (g.S.Disk.given c.damage_at.new.store)
+    (takes_by mid left mid left 0 0 t t y z went (omega arith) (omega arith)) rest)
+
+pub returns-in-Err-Disk-clause-spends : goal.returns-in-Err-Disk-clause-spends
+returns-in-Err-Disk-clause-spends g c = λ events told counted.
+    let files = files_after events in
+    let old = c.loop-place.self in
+    let place = c.loop-place.place in
+    let before = c.loop-place.invariant in
+    let so_far = before.costs events told counted in
+    let lent = c.deref_mut.ensures.value in
+    let x = g.S.Disk.given c.args.store.now in
+    let y = g.S.Disk.given c.loop-place.store in
+    let z = g.S.Disk.given c.ask_at.new.store in
+    let s = c.args.steps.now in
+    let t = c.loop-place.steps in
+    let all = left_of_all files c.args.self.now.cursors.items in
+    let mid = left_of_all files old.cursors.items in
+    let left = left_of_all files (take place c.ask_at.new.cursors) in
+    let asked = c.in-Err-Disk.ensures.spends events (before.unchanged ∙ told)
+    (subst (λ (cs : List Cursor). AreCounted files cs) (sym lent) so_far.0) in
+    let went = subst (λ (cs : List Cursor). Takes (left_of_all files cs) left 0 0 y z) lent asked.1 in
+    takes_then all mid nothing s t t x y z so_far.1
+    (takes_all mid left t t y z (takes_by mid left mid left 0 0 t t y z went (omega arith) (omega arith)))
+
+pub returns-clause-takes : goal.returns-clause-takes
+returns-clause-takes g c = λ events told counted. c.loop-place.invariant.costs events told counted

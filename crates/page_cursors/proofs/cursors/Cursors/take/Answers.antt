@@ -1,4 +1,4 @@
-use Rattle.std.proofs.Common.{◌≡◌, ◌<◌, ℕ, List, Option, Some, None, length, refl, sym, ap, subst, ◌∙◌, arith}
+use Rattle.std.proofs.Common.{take, ◌≡◌, ◌<◌, ℕ, List, Option, Some, None, length, refl, sym, ap, subst, ◌∙◌, arith}
 use Rattle.std.specs.Prelude.{slice_get, slice_set}
 use Rattle.std.proofs.lemmas.Option.{slice_get_within}
 use Rattle.crash_disk.specs.Files.{files_after}
@@ -16,6 +16,9 @@ use Rattle.page_cursors.specs.Cursor.{GivesPage, TellsFileFault}
 use Rattle.page_cursors.proofs.QueueLemmas.{popped_here, popped_other, popped_length, slice_get-set_same}
 use Rattle.page_cursors.proofs.TakeLemmas.{MovesOn, open_at, taking_next, take_next, same_plan, same_shape}
 use Rattle.page_cursors.proofs.TakeLemmas.{explains_fault}
+use Rattle.page_cursors.specs.Costs.{AreCounted, Takes, left_of_all, nothing}
+use Rattle.page_cursors.proofs.CostLemmas.{takes_by, takes_none, takes_then}
+use Rattle.page_cursors.proofs.CostListLemmas.{takes_all, err_each}
 use Rattle.page_cursors.proofs.cursors.Cursors.take.Goals as goal
 
 pub put_above-requires-clause-waits_not : goal.put_above-requires-clause-waits_not
@@ -182,3 +185,62 @@ returns-in-Err-Fault-clause-explained g c = λ events told from given taken.
     (length c.deref_mut-in-Err-Fault-2.result.now) c.deref_mut-in-Err-Fault.result.now place f c.damage_at.result)
     (sym c.in-Err-Fault.fault-is)
     (c.damage_at.ensures.blames events (told_after ∙ told))))
+
+pub returns-clause-costs : goal.returns-clause-costs
+returns-clause-costs g c = λ events told counted.
+    let files = files_after events in
+    let old = c.args.self.now in
+    let lent = c.deref_mut.ensures.value in
+    let kept = with_items_is old.cursors c.give_at.new.cursors (c.give_at.auto.cursors ∙ ap length lent
+    ∙ sym old.cursors.ok.0) in
+    let s = c.args.steps.now in
+    let t = c.give_at.new.steps in
+    let x = g.S.Disk.given c.args.store.now in
+    let y = g.S.Disk.given c.give_at.new.store in
+    let gave = c.in-Ok.ensures.takes events told (subst (λ (cs : List Cursor). AreCounted files cs) (sym lent) counted) in (
+      subst (λ (cs : List Cursor). AreCounted files cs) (sym kept) gave.0,
+      subst (λ (cs : List Cursor). Takes (left_of_all files old.cursors.items) (left_of_all files cs) s t x y) (sym kept)
+          (subst (λ (cs : List Cursor). Takes (left_of_all files cs) (left_of_all files c.give_at.new.cursors) s t x y) lent
+          gave.1),
+    )
+
+pub returns-in_default-clause-costs : goal.returns-in_default-clause-costs
+returns-in_default-clause-costs g c = λ events told counted. (counted, takes_none _ _ _ _ _ refl refl)
+
+pub returns-in-Err-Fault-clause-spends : goal.returns-in-Err-Fault-clause-spends
+returns-in-Err-Fault-clause-spends g c = λ events told counted.
+    let files = files_after events in
+    let old = c.args.self.now in
+    let place = c.in-Some.place in
+    let lent = c.deref_mut.ensures.value in
+    let kept = with_items_is old.cursors c.give_at.new.cursors (c.give_at.auto.cursors ∙ ap length lent
+    ∙ sym old.cursors.ok.0) in
+    let same = c.deref_mut-in-Err-Fault.ensures.value ∙ kept in
+    let s = c.args.steps.now in
+    let t = c.give_at.new.steps in
+    let u = c.damage_at.new.steps in
+    let x = g.S.Disk.given c.args.store.now in
+    let y = g.S.Disk.given c.give_at.new.store in
+    let z = g.S.Disk.given c.damage_at.new.store in
+    let mid = left_of_all files old.cursors.items in
+    let left = left_of_all files (take place c.give_at.new.cursors) in
+    let gave = c.in-Err-Fault.ensures.spends events told
+    (subst (λ (cs : List Cursor). AreCounted files cs) (sym lent) counted) in
+    let went = subst (λ (cs : List Cursor). Takes (left_of_all files cs) left s t x y) lent gave.1 in
+    let read = c.damage_at.ensures.spends events (c.give_at.ensures.unchanged ∙ told)
+    (subst (λ (cs : List Cursor). AreCounted files (take place cs)) (sym same) gave.0) in
+    let rest = subst (λ (cs : List Cursor). Takes (left_of_all files (take place cs)) nothing t u y z) same read in
+    takes_then mid left nothing s t u x y z went rest
+
+pub returns-in-Err-Disk-clause-spends : goal.returns-in-Err-Disk-clause-spends
+returns-in-Err-Disk-clause-spends g c = λ events told counted.
+    let files = files_after events in
+    let old = c.args.self.now in
+    let place = c.in-Some.place in
+    let lent = c.deref_mut.ensures.value in
+    let gave = c.in-Err-Disk.ensures.spends events told
+    (subst (λ (cs : List Cursor). AreCounted files cs) (sym lent) counted) in
+    let left = left_of_all files (take place c.give_at.new.cursors) in
+    takes_all (left_of_all files old.cursors.items) left c.args.steps.now c.give_at.new.steps _ _
+    (subst (λ (cs : List Cursor). Takes (left_of_all files cs) left c.args.steps.now c.give_at.new.steps
+    (g.S.Disk.given c.args.store.now) (g.S.Disk.given c.give_at.new.store)) lent gave.1)
