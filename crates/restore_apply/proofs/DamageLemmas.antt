@@ -15,7 +15,7 @@ use Rattle.replica_store.specs.declared.file_name.FileName.{FileName}
 use Rattle.replica_store.specs.Applying.{AppliesTo, LacksPage}
 use Rattle.replica_store.specs.FileOf.{IsDamage, IsFileUnder, AreFilesUnder, HavePageSize}
 use Rattle.replica_store.specs.Listing.{path_of, bytes_under}
-use Rattle.restore_apply.specs.Restoring.{ArePlanFiles, Makes, IsFirstDamaged, IsFirstMissing}
+use Rattle.page_cursors.specs.PlanFiles.{ArePlanFiles, Makes, IsFirstDamaged, IsFirstMissing}
 
 both_ways : (found : Option LtxFault) (fault : LtxFault) → found ≡ None → found ≡ Some fault → ⊥
 both_ways found fault none some = cc

@@ -1,9 +1,9 @@
 pub mod PlanLemmas
-pub mod SourceLemmas
+pub mod PagesLemmas
+pub mod PutLemmas
 pub mod StagingLemmas
 pub mod StopLemmas
 pub mod OutputLemmas
-pub mod RestoreLemmas
+pub mod FaultLemmas
 pub mod DamageLemmas
 pub mod Theorems
-pub mod StandardFacts

@@ -3,11 +3,11 @@ use Rattle.std.proofs.Common.{◌≡◌, ◌≢◌, ℕ, List, [], ◌∷◌, le
 use Rattle.std.specs.Prelude.{codes, ◌⊎◌}
 use Rattle.std.proofs.lemmas.List.{length-append}
 use Rattle.crash_disk.specs.declared.event.Event.{Event}
-use Rattle.crash_disk.specs.declared.event.Event.TheVariants.{Created, Synced}
+use Rattle.crash_disk.specs.declared.event.Event.TheVariants.{Created, Synced, Removed}
 use Rattle.crash_disk.specs.Files.{file_at}
-use Rattle.crash_disk.proofs.FileLaws.{file_at-Created-here, file_at-Created-other, file_at-Synced, file_at-NamesSynced, file_at-Renamed-to, file_at-Renamed-from, file_at-Renamed-other, file_at-Removed-other}
-use Rattle.restore_apply.specs.Staging.{temporary_name, MayBegin, Fills, Names, MayName, Began, Synchronized, Named, Settles, MaySettle, Left, Cleared, WritesFile, MayWriteFile}
-use Rattle.restore_apply.proofs.StopLemmas.{stop_may_name, stop_settled, settled_stays, stop_cleared}
+use Rattle.crash_disk.proofs.FileLaws.{file_at-Created-here, file_at-Created-other, file_at-Synced, file_at-NamesSynced, file_at-Renamed-to, file_at-Renamed-from, file_at-Renamed-other, file_at-Removed-here, file_at-Removed-other}
+use Rattle.restore_apply.specs.Staging.{temporary_name, MayBegin, Fills, Names, MayName, Began, Synchronized, Named, Settles, MaySettle, Left, Cleared, WritesFile, MayWriteFile, LeavesUnwritten, LeavesNoTrace, Lacks}
+use Rattle.restore_apply.proofs.StopLemmas.{stop_may_name, stop_settled, settled_stays, stop_cleared, none_begun, none_cleared}
 use Rattle.restore_apply.proofs.StagingLemmas.{file_at-appended-here, file_at-appended-other}
 
 -- the temporary name is another one
@@ -98,3 +98,42 @@ may_write-from_may_settle name bytes x y (Cleared left may is) =
       others = λ q apart apart_too. at q apart_too ∙ before.others q apart apart_too;
       at_a_stop = λ nothing. stop_cleared (temporary_name name) name bytes x (name_apart name) nothing y left may is;
     }
+
+-- ---- where nothing gets the name
+
+-- the file was begun at most
+pub unwritten_begun : (name : List ℕ) (x y : List Event) → file_at x name ≡ None → MayBegin (temporary_name name) x y
+    → LeavesUnwritten name x y
+unwritten_begun name x y absent begun = record {
+  output = begun_other (temporary_name name) name x y begun (name_apart name) ∙ absent;
+  others = λ q apart apart_too. begun_other (temporary_name name) q x y begun apart_too;
+  at_a_stop = λ nothing. none_begun (temporary_name name) name [] x (name_apart name) nothing y begun;
+}
+
+-- and then removed
+pub no_trace : (name : List ℕ) (x left y : List Event) → file_at x name ≡ None → MayBegin (temporary_name name) x left
+    → y ≡ Removed (temporary_name name) ∷ left → LeavesNoTrace name x y
+no_trace name x left y absent begun is =
+    let before = unwritten_begun name x left absent begun in
+    let at : (q : List ℕ) → q ≢ temporary_name name → file_at y q ≡ file_at left q
+    = λ q apart. ap (λ (es : List Event). file_at es q) is ∙ file_at-Removed-other left (temporary_name name) q apart in
+    record {
+      unwritten = record {
+        output = at name (name_apart name) ∙ before.output;
+        others = λ q apart apart_too. at q apart_too ∙ before.others q apart apart_too;
+        at_a_stop = λ nothing. none_cleared (temporary_name name) name [] x (name_apart name) nothing y left begun is;
+      };
+      temporary =
+          ap (λ (es : List Event). file_at es (temporary_name name)) is
+          ∙ file_at-Removed-here left (temporary_name name);
+    }
+
+-- the temporary file is gone once it was removed
+pub lacks_removed : (name : List ℕ) (x left y : List Event) → y ≡ Removed name ∷ left → Lacks name x y
+lacks_removed name x left y is =
+    ap (λ (es : List Event). file_at es name) is ∙ file_at-Removed-here left name
+
+-- or renamed
+pub lacks_named : (name bytes : List ℕ) (x y : List Event) → Names (temporary_name name) name bytes x y
+    → Lacks (temporary_name name) x y
+lacks_named name bytes x y names = named_temporary (temporary_name name) name bytes x y (temporary_apart name) names

@@ -11,7 +11,7 @@ use Rattle.crash_disk.specs.Images.{IsCrashImage, WasCrashImageSince}
 use Rattle.crash_disk.proofs.ImageSteps.{MayStandAt-Removed-other}
 use Rattle.crash_disk.proofs.Moments.{since_now, since_more, since_start}
 use Rattle.crash_disk.proofs.PutTheorem.{image_with, since_drafted, since_whole, since_named, put_leaves, put_is_safe}
-use Rattle.restore_apply.specs.Staging.{appended, MayBegin, Fills, Names, MayName, Began, Synchronized, Named}
+use Rattle.restore_apply.specs.Staging.{appended, MayBegin, Fills, Names, MayName, Began, Synchronized, Named, LeavesNothingSince}
 use Rattle.crash_disk.specs.Stop.{LeavesNothing, LeavesAtMost, Leaves}
 
 -- nothing is at most anything
@@ -103,6 +103,33 @@ module _ (temporary name bytes : List ℕ) (x : List Event) (apart : name ≢ te
       let found = image_with left name (get image name) (MayStandAt-Removed-other left temporary name (get image name) apart (crash.each name)) in
       subst (λ file. IfSome file IsWhole) found.1 (before _ (since_now left (length x) _ past found.0)) in
       elim (since_more (Removed temporary) left (length x) image (subst (λ (es : List Event). WasCrashImageSince es (length x) image) is was)) [
+        | inl now ↦ here now
+        | inr earlier ↦ before image earlier
+      ]
+
+  -- ---- where nothing gets the name
+
+  pub none_begun : (y : List Event) → MayBegin temporary x y → LeavesNothingSince name x y
+  none_begun y (inl same) image was =
+      nothing image (since_start x image (subst (λ (es : List Event). WasCrashImageSince es (length x) image) same was))
+  none_begun y (inr begins) image was =
+      let all = drafted_again temporary begins.pieces [] x in
+      since_drafted temporary name x apart nothing all.0 image
+      (subst (λ (es : List Event). WasCrashImageSince es (length x) image) (begins.record_is ∙ all.1) was)
+
+  -- and the temporary file was removed
+  pub none_cleared : (y left : List Event) → MayBegin temporary x left → y ≡ Removed temporary ∷ left
+      → LeavesNothingSince name x y
+  none_cleared y left begun is image was =
+      let past = later left (Began begun) in
+      let before = none_begun left begun in
+      let here : IsCrashImage (Removed temporary ∷ left) image → get image name ≡ None
+      = λ crash.
+      let found = image_with left name (get image name) (MayStandAt-Removed-other left temporary name (get image name)
+      apart (crash.each name)) in
+      sym found.1 ∙ before _ (since_now left (length x) _ past found.0) in
+      elim (since_more (Removed temporary) left (length x) image (subst (λ (es : List Event). WasCrashImageSince es
+      (length x) image) is was)) [
         | inl now ↦ here now
         | inr earlier ↦ before image earlier
       ]

@@ -1,5 +1,5 @@
+pub mod Pages
 pub mod Staging
 pub mod Restoring
+pub mod Writing
 pub mod RestoreLaws
-pub mod PlanFiles
-pub mod Sources

@@ -11,7 +11,7 @@ use Rattle.replica_store.specs.declared.file_name.FileName.{FileName}
 use Rattle.replica_store.specs.Chain.{IsChain, BeginsOnce}
 use Rattle.replica_store.specs.Faithful.{IsFaithful}
 use Rattle.replica_store.specs.Listing.{AreListed}
-use Rattle.restore_apply.specs.Restoring.{ArePlanFiles, Makes, IsFirstDamaged, IsFirstMissing}
+use Rattle.page_cursors.specs.PlanFiles.{ArePlanFiles, Makes, IsFirstDamaged, IsFirstMissing}
 
 -- the plan makes the state that is recorded for the transaction
 pub record MakesRecorded (files : Files) (history : History) (log : SyncLog) (t : ℕ)

@@ -1,9 +1,11 @@
 -- How an output is written: pieces are gathered and appended to a temporary file, which then gets the name.
-use Rattle.std.specs.Prelude.{◌≡◌, ◌≢◌, ℕ, List, [], ◌∷◌, ◌++◌, codes, Some, None, ◌⊎◌}
+use Rattle.std.specs.Prelude.{◌≡◌, ◌≢◌, ℕ, List, [], ◌∷◌, ◌++◌, codes, length, Some, None, ◌⊎◌}
+use Rattle.std.specs.FinMap.{get}
 use Rattle.std.specs.List.{concat}
 use Rattle.crash_disk.specs.declared.event.Event.{Event}
 use Rattle.crash_disk.specs.declared.event.Event.TheVariants.{Created, Appended, Synced, Renamed, Removed, NamesSynced}
-use Rattle.crash_disk.specs.Files.{file_at}
+use Rattle.crash_disk.specs.Files.{Files, file_at}
+use Rattle.crash_disk.specs.Images.{WasCrashImageSince}
 use Rattle.crash_disk.specs.Stop.{LeavesNothing, LeavesAtMost, Leaves}
 
 -- the record after these pieces were appended to the file, one after another
@@ -82,3 +84,23 @@ pub record MayWriteFile (name bytes : List ℕ) (old new : List Event) : Type 0 
   pub output : (file_at new name ≡ file_at old name) ⊎ (file_at new name ≡ Some bytes)
   pub others : (q : List ℕ) → q ≢ name → q ≢ temporary_name name → file_at new q ≡ file_at old q
   pub at_a_stop : LeavesNothing name old → LeavesAtMost name (λ found. found ≡ bytes) old new
+
+-- a crash at any moment since the old record leaves nothing under the name
+abbrev pub LeavesNothingSince : List ℕ → List Event → List Event → Type 0
+LeavesNothingSince name old new = (image : Files) → WasCrashImageSince new (length old) image → get image name ≡ None
+
+-- The file is absent, and each other file but the temporary one is as it was. Where a crash left nothing under the name
+-- before, one at any moment since leaves nothing either.
+pub record LeavesUnwritten (name : List ℕ) (old new : List Event) : Type 0 where
+  pub output : file_at new name ≡ None
+  pub others : (q : List ℕ) → q ≢ name → q ≢ temporary_name name → file_at new q ≡ file_at old q
+  pub at_a_stop : LeavesNothing name old → LeavesNothingSince name old new
+
+-- that, and the temporary file is absent too
+pub record LeavesNoTrace (name : List ℕ) (old new : List Event) : Type 0 where
+  pub unwritten : LeavesUnwritten name old new
+  pub temporary : file_at new (temporary_name name) ≡ None
+
+-- the file is absent
+abbrev pub Lacks : List ℕ → List Event → List Event → Type 0
+Lacks name old new = file_at new name ≡ None

@@ -2,19 +2,20 @@
 //!
 //! To the layer above it promises: the output has its name whole or not at all, also after a crash, where none
 //! could have left anything there before; what is written is what the plan's files make, applied one after
-//! another to nothing, with zeros for the lock page; and each fault tells its cause. All files are read, and all
-//! memory is taken, before the first byte is written. It holds the pages of all files of the plan at once.
+//! another to nothing, with zeros for the lock page; and each fault tells its cause, and leaves neither the name nor
+//! the temporary file, where the output's disk could remove it. All memory is taken before the first byte is
+//! written: one page, a piece of the output, and some bytes a file. No file is held whole.
 //!
-//! Stands on `ls_base`, `crash_disk`, `ltx_format` and `replica_store`.
+//! Stands on `ls_base`, `crash_disk`, `replica_store` and `page_cursors`, which gives the pages of many files; on
+//! `ltx_format` for its proofs alone.
 #![tactic(auto)]
 
 mod applying;
 mod gathered;
 mod law;
 mod output;
-mod reading;
+mod pages;
 mod restored;
-mod sources;
 
 pub use applying::restore;
 pub use law::{

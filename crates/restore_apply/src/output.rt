@@ -1,18 +1,26 @@
 //! Writing the output: whole under its name, or not at all.
 
-ghost use Rattle.std.specs.Prelude.{◌≡◌, ◌≢◌, ◌^◌, ◌<◌, ◌≤◌, [], length, replicate, string_bytes, unwrap_or, IfOk, OnOk, OnErr};
-ghost use Rattle.ls_base.specs.Fault.{HasCause};
-ghost use Rattle.crash_disk.specs.Told.{IfTold};
-ghost use Rattle.crash_disk.specs.Files.{IsThere};
+ghost use Rattle.std.specs.Prelude.{◌≡◌, ◌≢◌, ◌≤◌, [], None, string_bytes, IfOk, IfErr, IsErrOf, OnOk};
+ghost use Rattle.ls_base.specs.Fault.{Rose};
+ghost use Rattle.crash_disk.specs.declared.event.Event.TheVariants.{Removed};
+ghost use Rattle.crash_disk.specs.Told.{IfTold, gains, GainsOrNot};
+ghost use Rattle.crash_disk.specs.Files.{IsThere, file_at, files_after};
+ghost use Rattle.page_cursors.specs.Cursors.{AreReady, HaveGiven, plan_of};
+ghost use Rattle.page_cursors.specs.Costs.{AreCounted, Takes, left_of_all, nothing};
+ghost use Rattle.restore_apply.specs.declared.restored.RestoreFault.TheVariants as fault;
+ghost use Rattle.restore_apply.specs.Restoring.{ExplainsRestore};
+ghost use Rattle.restore_apply.specs.Writing.{RestsOn, FillsPages, NamesPages, LeavesPages, WritesPages, Clears, fault_of};
+ghost use Rattle.restore_apply.specs.Staging.{MayBegin, temporary_name};
 ghost use Rattle.crash_disk.specs.GoesOn.{GoesOn};
-ghost use Rattle.restore_apply.specs.Staging.{OnlyAppends, AppendsGathered, MayBegin, Fills, Names, MayName, Settles, MaySettle, temporary_name};
-ghost use Rattle.restore_apply.specs.Sources.{HoldsPage, HoldsEachPage, page_from, sourced_bytes, zero_page};
 
 use crate::gathered::Gathered;
-use crate::sources::Source;
-use crash_disk::{Disk, DiskFault};
-use ltx_format::LtxFile;
+use crate::pages::put_pages;
+use crate::restored::RestoreFault;
+use crash_disk::Disk;
+use ls_base::Steps;
+use page_cursors::{Cursors, CursorsFault};
 use std::alloc::{AllocError, Global};
+use std::sync::ledger::Ledger;
 
 /// The name under which the output of this name is written, until it is whole.
 pub fn temporary_name(alloc: Global, name: &str) -> Result<String, AllocError>
@@ -23,142 +31,155 @@ pub fn temporary_name(alloc: Global, name: &str) -> Result<String, AllocError>
     Ok(temporary)
 }
 
-/// How many bytes a page of the files has.
-fn page_bytes(files: &[LtxFile]) -> usize
-    ensures { replicate result 0 ≡ zero_page files.now }
+/// Removes the temporary file, which is of no use to anyone once a restore has failed: the fault that counts is the
+/// first.
+fn clear<T: Disk>(target: &mut T, temporary: &str)
+    ensures tried { GainsOrNot (T.told target.old) (T.told target.new) (Removed temporary.now) }
+    ensures removed { (Rose (T.fault_count target.old) (T.fault_count target.new) → ⊥)
+        → T.told target.new ≡ gains (T.told target.old) (Removed temporary.now) }
+    ensures same_folder { T.folder target.new ≡ T.folder target.old }
+    ensures later { T.fault_count target.old ≤ T.fault_count target.new }
 {
-    if files.is_empty() {
-        return 0;
-    }
-    let header = files[0].header;
-    header.size.get() as usize
+    let _ = target.remove(temporary);
 }
 
-fn put_page<D: Disk>(
-    disk: &mut D,
-    name: &str,
-    files: &[LtxFile],
-    source: Source,
-    number: u32,
-    gathered: &mut Gathered,
-) -> Result<(), DiskFault>
-    requires there { IfTold (D.told disk.old) (λ events. IsThere events name.now) }
-    requires held { HoldsPage files.now number source }
-    ensures ok { OnOk result (GoesOn (D.told disk.old) (D.told disk.new) (AppendsGathered name.now gathered.old
-        (unwrap_or (page_from files.now number source) []) gathered.new)) }
-    ensures err { OnErr result (GoesOn (D.told disk.old) (D.told disk.new) (OnlyAppends name.now)) }
-    ensures same_folder { D.folder disk.new ≡ D.folder disk.old }
-    ensures cause { HasCause (D.fault_count disk.old) (D.fault_count disk.new) result }
+/// Clears what an earlier stop may have left where the cursors could not be begun, but not for want of memory.
+pub fn refuse<T: Disk>(target: &mut T, temporary: &str, found: CursorsFault) -> RestoreFault
+    ensures same { result ≡ fault_of found }
+    ensures clears { Clears temporary.now (T.told target.old) (T.told target.new) (T.fault_count target.old)
+        (T.fault_count target.new) found }
+    ensures same_folder { T.folder target.new ≡ T.folder target.old }
+    ensures later { T.fault_count target.old ≤ T.fault_count target.new }
 {
-    let Source::File(place) = source else {
-        return gathered.put_zeros(disk, name, page_bytes(files));
-    };
-    let Some(file) = files.get(place) else {
-        unreachable!()
-    };
-    let Some(page) = file.pages.get(number) else {
-        unreachable!()
-    };
-    gathered.put(disk, name, page.bytes())
+    match found {
+        CursorsFault::Damaged(name, damage) => {
+            clear(target, temporary);
+            RestoreFault::Damaged(name, damage)
+        }
+        CursorsFault::PageMissing(name, number) => {
+            clear(target, temporary);
+            RestoreFault::PageMissing(name, number)
+        }
+        CursorsFault::Store(fault) => {
+            clear(target, temporary);
+            RestoreFault::Store(fault)
+        }
+        CursorsFault::Memory => RestoreFault::Memory,
+    }
 }
 
-fn put_pages<D: Disk>(
-    disk: &mut D,
+/// Makes the file anew, and fills it with the pages that the cursors give.
+fn fill<S: Disk, T: Disk, L: Ledger>(
+    cursors: &mut Cursors,
+    store: &mut S,
+    target: &mut T,
     name: &str,
-    files: &[LtxFile],
-    sources: &[Source],
     gathered: &mut Gathered,
-) -> Result<(), DiskFault>
-    requires there { IfTold (D.told disk.old) (λ events. IsThere events name.now) }
-    requires few { length sources.now < 2 ^ 32 }
-    requires whole { HoldsEachPage files.now sources.now }
-    ensures ok { OnOk result (GoesOn (D.told disk.old) (D.told disk.new) (AppendsGathered name.now gathered.old
-        (sourced_bytes files.now sources.now) gathered.new)) }
-    ensures err { OnErr result (GoesOn (D.told disk.old) (D.told disk.new) (OnlyAppends name.now)) }
-    ensures same_folder { D.folder disk.new ≡ D.folder disk.old }
-    ensures cause { HasCause (D.fault_count disk.old) (D.fault_count disk.new) result }
+    steps: &mut Steps<L>,
+) -> Result<(), RestoreFault>
+    requires ready { AreReady cursors.old }
+    requires given { IfTold (S.told store.old) (λ events. HaveGiven (files_after events) cursors.old []) }
+    requires empty { gathered.old ≡ [] }
+    ensures ok { IfOk result (λ _. FillsPages (S.told store.old) cursors.old name.now (T.told target.old)
+        (T.told target.new)) }
+    ensures there { OnOk result (IfTold (T.told target.new) (λ events. IsThere events name.now)) }
+    ensures err { IfErr result (λ _. GoesOn (T.told target.old) (T.told target.new) (MayBegin name.now)) }
+    ensures rests { IfErr result (RestsOn (S.told store.old) (plan_of cursors.old) (S.fault_count store.old)
+        (S.fault_count store.new) (T.fault_count target.old) (T.fault_count target.new)) }
+    ensures takes { IfTold (S.told store.old) (λ events. AreCounted (files_after events) cursors.old.cursors.items
+        → Takes (left_of_all (files_after events) cursors.old.cursors.items) nothing
+        steps.old steps.new (S.given store.old) (S.given store.new)) }
+    ensures store_unchanged { S.told store.new ≡ S.told store.old }
+    ensures same_folder { S.folder store.new ≡ S.folder store.old }
+    ensures same_target_folder { T.folder target.new ≡ T.folder target.old }
+    ensures store_later { S.fault_count store.old ≤ S.fault_count store.new }
+    ensures target_later { T.fault_count target.old ≤ T.fault_count target.new }
 {
-    for at in 0..sources.len() {
-        let Some(source) = sources.get(at) else {
-            unreachable!()
-        };
-        put_page(disk, name, files, *source, at as u32 + 1, gathered)?;
-    }
+    target.create(name)?;
+    put_pages(cursors, store, target, name, gathered, steps)?;
+    gathered.flush(target, name)?;
     Ok(())
 }
 
-fn fill<D: Disk>(
-    disk: &mut D,
-    name: &str,
-    files: &[LtxFile],
-    sources: &[Source],
-    gathered: &mut Gathered,
-) -> Result<(), DiskFault>
-    requires few { length sources.now < 2 ^ 32 }
-    requires whole { HoldsEachPage files.now sources.now }
-    requires empty { gathered.old ≡ [] }
-    ensures ok { OnOk result (GoesOn (D.told disk.old) (D.told disk.new) (Fills name.now
-        (sourced_bytes files.now sources.now))) }
-    ensures there { OnOk result (IfTold (D.told disk.new) (λ events. IsThere events name.now)) }
-    ensures err { OnErr result (GoesOn (D.told disk.old) (D.told disk.new) (MayBegin name.now)) }
-    ensures same_folder { D.folder disk.new ≡ D.folder disk.old }
-    ensures cause { HasCause (D.fault_count disk.old) (D.fault_count disk.new) result }
-{
-    disk.create(name)?;
-    put_pages(disk, name, files, sources, gathered)?;
-    gathered.flush(disk, name)
-}
-
 /// Writes the pages under the temporary name, brings them to the disk and gives them the name.
-fn write_named<D: Disk>(
-    disk: &mut D,
+fn write_named<S: Disk, T: Disk, L: Ledger>(
+    cursors: &mut Cursors,
+    store: &mut S,
+    target: &mut T,
     temporary: &str,
     name: &str,
-    files: &[LtxFile],
-    sources: &[Source],
     gathered: &mut Gathered,
-) -> Result<(), DiskFault>
-    requires apart { temporary.now ≢ name.now }
-    requires few { length sources.now < 2 ^ 32 }
-    requires whole { HoldsEachPage files.now sources.now }
+    steps: &mut Steps<L>,
+) -> Result<(), RestoreFault>
+    requires ready { AreReady cursors.old }
+    requires given { IfTold (S.told store.old) (λ events. HaveGiven (files_after events) cursors.old []) }
     requires empty { gathered.old ≡ [] }
-    ensures ok { OnOk result (GoesOn (D.told disk.old) (D.told disk.new) (Names temporary.now name.now
-        (sourced_bytes files.now sources.now))) }
-    ensures err { OnErr result (GoesOn (D.told disk.old) (D.told disk.new) (MayName temporary.now name.now
-        (sourced_bytes files.now sources.now))) }
-    ensures same_folder { D.folder disk.new ≡ D.folder disk.old }
-    ensures cause { HasCause (D.fault_count disk.old) (D.fault_count disk.new) result }
+    requires apart { temporary.now ≢ name.now }
+    ensures ok { IfOk result (λ _. NamesPages (S.told store.old) cursors.old temporary.now name.now (T.told target.old)
+        (T.told target.new)) }
+    ensures err { IfErr result (LeavesPages (S.told store.old) cursors.old temporary.now name.now (T.told target.old)
+        (T.told target.new)) }
+    ensures rests { IfErr result (RestsOn (S.told store.old) (plan_of cursors.old) (S.fault_count store.old)
+        (S.fault_count store.new) (T.fault_count target.old) (T.fault_count target.new)) }
+    ensures takes { IfTold (S.told store.old) (λ events. AreCounted (files_after events) cursors.old.cursors.items
+        → Takes (left_of_all (files_after events) cursors.old.cursors.items) nothing
+        steps.old steps.new (S.given store.old) (S.given store.new)) }
+    ensures store_unchanged { S.told store.new ≡ S.told store.old }
+    ensures same_folder { S.folder store.new ≡ S.folder store.old }
+    ensures same_target_folder { T.folder target.new ≡ T.folder target.old }
+    ensures store_later { S.fault_count store.old ≤ S.fault_count store.new }
+    ensures target_later { T.fault_count target.old ≤ T.fault_count target.new }
 {
-    fill(disk, temporary, files, sources, gathered)?;
-    disk.sync(temporary)?;
-    disk.rename(temporary, name)
+    fill(cursors, store, target, temporary, gathered, steps)?;
+    target.sync(temporary)?;
+    target.rename(temporary, name)?;
+    Ok(())
 }
 
-/// Writes the pages, each from its source: under the temporary name first, so that nothing but the whole of
-/// them ever has the name.
-pub fn write_output<D: Disk>(
-    disk: &mut D,
+/// Writes the pages that the cursors give: under the temporary name first, so that nothing but the whole of them ever
+/// has the name.
+pub fn write_output<S: Disk, T: Disk, L: Ledger>(
+    cursors: &mut Cursors,
+    store: &mut S,
+    target: &mut T,
     temporary: &str,
     name: &str,
-    files: &[LtxFile],
-    sources: &[Source],
     mut gathered: Gathered,
-) -> Result<(), DiskFault>
-    requires temporary { temporary.now ≡ temporary_name name.now }
-    requires few { length sources.now < 2 ^ 32 }
-    requires whole { HoldsEachPage files.now sources.now }
+    steps: &mut Steps<L>,
+) -> Result<(), RestoreFault>
+    requires ready { AreReady cursors.old }
+    requires given { IfTold (S.told store.old) (λ events. HaveGiven (files_after events) cursors.old []) }
     requires empty { gathered ≡ [] }
-    ensures ok { OnOk result (GoesOn (D.told disk.old) (D.told disk.new) (Settles name.now
-        (sourced_bytes files.now sources.now))) }
-    ensures err { OnErr result (GoesOn (D.told disk.old) (D.told disk.new) (MaySettle name.now
-        (sourced_bytes files.now sources.now))) }
-    ensures same_folder { D.folder disk.new ≡ D.folder disk.old }
-    ensures cause { HasCause (D.fault_count disk.old) (D.fault_count disk.new) result }
+    requires temporary { temporary.now ≡ temporary_name name.now }
+    requires absent { IfTold (T.told target.old) (λ events. file_at events name.now ≡ None) }
+    ensures ok { IfOk result (λ _. WritesPages (S.told store.old) cursors.old name.now (T.told target.old)
+        (T.told target.new)) }
+    ensures explained { IfErr result (ExplainsRestore (S.told store.old) (plan_of cursors.old) name.now
+        (T.told target.old) (T.told target.new) (S.fault_count store.old) (S.fault_count store.new)
+        (T.fault_count target.old) (T.fault_count target.new)) }
+    ensures takes { IfTold (S.told store.old) (λ events. AreCounted (files_after events) cursors.old.cursors.items
+        → Takes (left_of_all (files_after events) cursors.old.cursors.items) nothing
+        steps.old steps.new (S.given store.old) (S.given store.new)) }
+    ensures no_memory { IsErrOf result fault.Memory → ⊥ }
+    ensures store_unchanged { S.told store.new ≡ S.told store.old }
+    ensures same_folder { S.folder store.new ≡ S.folder store.old }
+    ensures same_target_folder { T.folder target.new ≡ T.folder target.old }
+    ensures store_later { S.fault_count store.old ≤ S.fault_count store.new }
+    ensures target_later { T.fault_count target.old ≤ T.fault_count target.new }
 {
-    if let Err(fault) = write_named(disk, temporary, name, files, sources, &mut gathered) {
-        // What is left of it is of no use to anyone; the fault that counts is the first.
-        let _ = disk.remove(temporary);
+    let written = write_named(
+        cursors,
+        store,
+        target,
+        temporary,
+        name,
+        &mut gathered,
+        steps,
+    );
+    if let Err(fault) = written {
+        clear(target, temporary);
         return Err(fault);
     }
-    disk.sync_names()
+    target.sync_names()?;
+    Ok(())
 }

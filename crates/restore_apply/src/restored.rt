@@ -1,12 +1,13 @@
 //! What a restore answers.
 
 ghost use Rattle.std.specs.Prelude.{◌≡◌};
-ghost use Rattle.restore_apply.specs.PlanFiles.{fault_of};
-ghost use Rattle.restore_apply.specs.declared.restored.RestoreFault.TheVariants.{Memory as want};
+ghost use Rattle.restore_apply.specs.Writing.{fault_of};
+ghost use Rattle.restore_apply.specs.declared.restored.RestoreFault.TheVariants.{Target as broken, Memory as want};
 
 use crash_disk::DiskFault;
 use ls_base::Txid;
-use replica_store::{Damage, FileName, StoreError};
+use page_cursors::CursorsFault;
+use replica_store::{Damage, FileName};
 use std::alloc::{AllocError, AllocFailed};
 use thiserror::Error;
 
@@ -41,15 +42,25 @@ pub enum RestoreFault {
     Memory,
 }
 
-impl From<StoreError> for RestoreFault {
-    ghost from_gives = { λ error fault. fault ≡ fault_of error };
+impl From<CursorsFault> for RestoreFault {
+    ghost from_gives = { λ found fault. fault ≡ fault_of found };
 
-    fn from(error: StoreError) -> RestoreFault {
-        match error {
-            StoreError::Store(fault) => RestoreFault::Store(fault),
-            StoreError::Damaged(name, damage) => RestoreFault::Damaged(name, damage),
-            StoreError::Memory => RestoreFault::Memory,
+    fn from(found: CursorsFault) -> RestoreFault {
+        match found {
+            CursorsFault::Damaged(name, damage) => RestoreFault::Damaged(name, damage),
+            CursorsFault::PageMissing(name, number) => RestoreFault::PageMissing(name, number),
+            CursorsFault::Store(fault) => RestoreFault::Store(fault),
+            CursorsFault::Memory => RestoreFault::Memory,
         }
+    }
+}
+
+/// A fault of the output's disk: the replica's comes from the cursors.
+impl From<DiskFault> for RestoreFault {
+    ghost from_gives = { λ found fault. fault ≡ broken found };
+
+    fn from(found: DiskFault) -> RestoreFault {
+        RestoreFault::Target(found)
     }
 }
 
