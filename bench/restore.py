@@ -2,12 +2,15 @@
 """Times `restore` of a large database from one whole file and later ones beside plain copies of the same bytes.
 Run by hand.
 
-    bench/restore.py [--mib 256] [--files 20] [--changed 300] [--runs 5] [--program PATH]
+    bench/restore.py [--mib 256] [--files 20] [--changed 300] [--many 1000] [--runs 5] [--program PATH]
 
 SQLite makes the database, of one row a page, and changes some rows for each later file. All files lie in a folder of
 their own below --folder, which goes away at the end. A run of `cp` counts with the sync of its output, since a
 restore syncs too. Where `sqlite3` is installed, its `.backup` of the same database is timed beside them. Where Python
 has no SQLite it does nothing.
+
+Then a plan of many files of 100 pages each is set beside the same pages in one file: each file grows the database by
+its pages, so that both replicas have about the same bytes.
 """
 
 import argparse
@@ -32,6 +35,8 @@ sys.path.insert(0, os.path.join(ROOT, "examples"))
 import make_replica  # noqa: E402
 
 PAGE_BYTES = 4096
+SMALL_PAGES = 100  # of each of the many files
+SMALL_PAGE_BYTES = 1024
 ROW_BYTES = 4000  # a row of a leaf page of its own
 BUILT = os.path.join(ROOT, "crates", "litestream_main", "out", "litestream_main")
 
@@ -184,11 +189,51 @@ def measure(asked, folder):
     report(asked, program, os.path.getsize(database), lengths, times, peak)
 
 
+def grown_pages(count, draw):
+    """So many pages, the first of which is that of a database."""
+    head = make_replica.SQLITE_MAGIC + SMALL_PAGE_BYTES.to_bytes(2, "big") + bytes.fromhex("0202")
+    first = head.ljust(SMALL_PAGE_BYTES, b"\0")
+    return [first, *(draw.randbytes(SMALL_PAGE_BYTES) for _ in range(count - 1))]
+
+
+def make_many(asked, many, one):
+    """The same pages in many files, each of which grows the database, and in one."""
+    pages = grown_pages(asked.many * SMALL_PAGES, random.Random(asked.seed))
+    make_replica.put_file(one, make_replica.WHOLE_LEVEL, (1, 1), make_replica.whole_database(pages))
+    make_replica.put_file(many, make_replica.WHOLE_LEVEL, (1, 1), make_replica.whole_database(pages[:SMALL_PAGES]))
+    for txid in range(2, asked.many + 1):
+        before, after = (txid - 1) * SMALL_PAGES, txid * SMALL_PAGES
+        numbered = enumerate(pages[before:after], before + 1)
+        content = make_replica.transaction_file(
+            numbered, SMALL_PAGE_BYTES, after, (txid, txid), make_replica.MOMENT + txid, make_replica.TOP_BIT
+        )
+        make_replica.put_file(many, 0, (txid, txid), content)
+
+
+def measure_many(asked, folder):
+    program = os.path.abspath(asked.program) if asked.program else BUILT
+    many, one = os.path.join(folder, "many"), os.path.join(folder, "one")
+    make_many(asked, many, one)
+    outputs = {replica: os.path.join(folder, f"{os.path.basename(replica)}.db") for replica in (many, one)}
+    words = {replica: [program, "restore", "-o", output, replica] for replica, output in outputs.items()}
+    os.sync()
+    times = medians({replica: ([words[replica]], outputs[replica]) for replica in outputs}, asked.runs)
+    if not same_bytes(outputs[many], outputs[one]):
+        sys.exit("the restored databases differ")
+    peak = peak_kib(words[many], outputs[many])
+    print(f"{asked.many} files of {SMALL_PAGES} pages of {SMALL_PAGE_BYTES}, and the same pages in one file")
+    for name, replica in (("many files", many), ("one file", one)):
+        took, processors = times[replica]
+        print(f"  {name:16} {took:7.3f} s, {processors:6.3f} s of processors")
+    print(f"  many files take {times[many][0] / times[one][0]:.2f} of one; peak memory {peak / 1024:.1f} MiB")
+
+
 def main():
     words = argparse.ArgumentParser(description=__doc__.split("\n")[0])
     words.add_argument("--mib", type=int, default=256, help="size of the database")
     words.add_argument("--files", type=int, default=20, help="how many files come after the whole one")
     words.add_argument("--changed", type=int, default=300, help="how many rows each of them changes")
+    words.add_argument("--many", type=int, default=1000, help="how many files the plan of small files has")
     words.add_argument("--runs", type=int, default=5)
     words.add_argument("--seed", type=int, default=1, help="of the rows' bytes")
     words.add_argument("--program", help="in place of the one that ./litestream builds")
@@ -196,6 +241,8 @@ def main():
     asked = words.parse_args()
     with tempfile.TemporaryDirectory(prefix="litestream-bench-", dir=asked.folder) as folder:
         measure(asked, folder)
+    with tempfile.TemporaryDirectory(prefix="litestream-bench-", dir=asked.folder) as folder:
+        measure_many(asked, folder)
 
 
 if __name__ == "__main__":

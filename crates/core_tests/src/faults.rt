@@ -9,13 +9,28 @@ use std::alloc::Global;
 use std::process::Abort;
 use std::test::Fail;
 
-/// How many calls on the replica's disk a restore of one file makes: attach, the names, the size and the bytes of
-/// the file.
-const STORE_CALLS: u64 = 4;
+/// How many calls on the replica's disk a restore of one file of two pages makes: attach, the names, the header, then
+/// each number and its page, the number 0 behind them, and the trailer, with a look at what stands behind it.
+const STORE_CALLS: u64 = 10;
+
+/// The name under which an output is written until it is whole.
+const TEMPORARY: &str = "o.litestream-tmp";
+
+/// A folder in which an earlier stop has left such a file.
+fn stopped_before(alloc: Global) -> Result<MemDisk, Fail> {
+    let mut target = MemDisk::new(alloc);
+    target.put_file(TEMPORARY, b"old")?;
+    Ok(target)
+}
+
+/// Whether that file is still there: it is where a call failed before the files of the plan were read.
+fn stays(call: u64) -> Option<u64> {
+    if call <= 2 { Some(3) } else { None }
+}
 
 fn check_target(rt: &impl Abort, alloc: Global, call: u64) -> Result<(), Fail> {
     let mut store = disk_of(alloc, Replica::Whole)?;
-    let mut target = MemDisk::new(alloc);
+    let mut target = stopped_before(alloc)?;
     target.fail_at(call)?;
     let mut out = MemOut::new(alloc);
     let outcome = carried_out(alloc, LINE, &mut store, &mut target, &mut out)?;
@@ -25,7 +40,7 @@ fn check_target(rt: &impl Abort, alloc: Global, call: u64) -> Result<(), Fail> {
     assert_eq!(rt; out.bytes(), b"".as_slice(), "call {call}");
     let left: &[u8] = if call > RENAMED { &PAGES } else { &[] };
     assert!(rt; holds(alloc, &mut target, left)?, "call {call}");
-    assert_eq!(rt; target.size("o.litestream-tmp")?, None, "call {call}");
+    assert_eq!(rt; target.size(TEMPORARY)?, stays(call), "call {call}");
     Ok(())
 }
 
@@ -40,7 +55,7 @@ fn a_failing_call_on_the_target_is_told(rt: HostRuntime) -> Result<(), Fail> {
 fn check_store(rt: &impl Abort, alloc: Global, call: u64) -> Result<(), Fail> {
     let mut store = disk_of(alloc, Replica::Whole)?;
     store.fail_at(call)?;
-    let mut target = MemDisk::new(alloc);
+    let mut target = stopped_before(alloc)?;
     let mut out = MemOut::new(alloc);
     let outcome = carried_out(alloc, LINE, &mut store, &mut target, &mut out)?;
     let passes = call > STORE_CALLS;
@@ -49,6 +64,7 @@ fn check_store(rt: &impl Abort, alloc: Global, call: u64) -> Result<(), Fail> {
     assert_eq!(rt; outcome.status, if passes { 0 } else { 3 }, "call {call}");
     let left: &[u8] = if passes { &PAGES } else { &[] };
     assert!(rt; holds(alloc, &mut target, left)?, "call {call}");
+    assert_eq!(rt; target.size(TEMPORARY)?, stays(call), "call {call}");
     Ok(())
 }
 

@@ -12,18 +12,24 @@ use Rattle.replica_store.specs.declared.dated_names.Dated.{Dated}
 use Rattle.replica_store.specs.Dating.{AreDated}
 use Rattle.replica_store.specs.Listing.{AreListed, path_of, paths_of}
 use Rattle.ls_base.specs.Fault.{Rose}
+use Rattle.ls_base.specs.History.{History}
+use Rattle.ls_base.specs.SyncLog.{SyncLog}
 use Rattle.ls_base.specs.State.{State}
-use Rattle.restore_apply.specs.Restoring.{Makes, IsFirstDamaged, IsFirstMissing}
+use Rattle.replica_store.specs.Faithful.{IsFaithful}
+use Rattle.page_cursors.specs.PlanFiles.{Makes, IsFirstDamaged, IsFirstMissing}
 use Rattle.ls_answers.specs.declared.outcome.Why.{Why}
 use Rattle.ls_answers.specs.declared.outcome.Why.TheVariants.{Done, SkippedOutput, SkippedReplica, NotBuilt, Usage, NoReplica, MissingRange, NoMoment, Damaged, PageMissing, OutputExists, StoreFault, TargetFault, SinkFault, Memory}
+use Rattle.ls_answers.specs.declared.outcome.Why.TheVariants.{NoDatabase, Header, SizesDiffer, WalTooLong, TooLarge}
+use Rattle.ls_answers.specs.declared.outcome.Why.TheVariants.{GateBroken, TxidSpent, LiveFault}
 use Rattle.litestream_core.specs.Asked.{AreNames, IsAsked, IsOfMoment, IsPlan, IsMissing, IsBefore, IsBadHeader, LacksMoment}
 use Rattle.litestream_core.specs.Command.{Explains, NotRisen}
-use Rattle.litestream_core.specs.Exact.{IsFree, IsTaken, HeadersAreGood, HasABadHeader, IsInTime, HasNoneOf, HasNoChain, MayBePlanned, PlanIsDamaged, PlanLacksPage, PlanMakesState, ComesExactly}
+use Rattle.litestream_core.specs.Exact.{IsFree, IsTaken, HeadersAreGood, HasABadHeader, IsInTime, HasNoneOf, HasNoChain, LeadsToAsked, MayBePlanned, PlanIsDamaged, PlanLacksPage, PlanMakesState, TellsNoDamage, ComesExactly}
 use Rattle.litestream_core.specs.Laws.{Laws}
 use Rattle.litestream_core.specs.Request.{Request}
 use Rattle.litestream_core.specs.Scene.{Scene}
 use Rattle.litestream_core.proofs.PlanLemmas.{plan_makes}
 use Rattle.litestream_core.proofs.HeaderLemmas.{all_headers_good}
+use Rattle.litestream_core.proofs.TruthLemmas.{true_headers}
 
 absent_size : (o : Option (List ℕ)) (n : ℕ) → o ≡ None → option_map length o ≡ Some n → ⊥
 absent_size None n none some = absurd cc
@@ -65,24 +71,35 @@ data Reached (r : Request) (scene : Scene) (store : Files) (why : Why) : Type 0 
 
 module _ (r : Request) (scene : Scene) (store : List Event) (told : scene.store ≡ Some store) (is : IsFree r scene) where
   reached : (why : Why) → Explains r scene why → Reached r scene (files_after store) why
-  reached Done (_, tells) = let it = (tells store told).restored in HasPlan it.t it.plan it.is (Made it.state it.makes (inl refl))
+  reached Done (_, tells) =
+      let it = tells.restored.state store told in
+      HasPlan tells.restored.t it.plan it.is (Made it.state it.makes (inl refl))
   reached SkippedOutput (_, _, there) = absurd (absent_there _ is.free (there is.target is.told))
   reached (OutputExists n) (_, _, there) = absurd (absent_size _ n is.free (there is.target is.told))
   reached SkippedReplica (_, _, flag, none) = NamesNone (none store told) (inl (refl, flag))
   reached NoReplica (_, _, flag, none) = NamesNone (none store told) (inr (refl, flag))
   reached NoMoment (_, _, before) = TooEarly refl (before store told)
   reached (MissingRange after) (_, _, missing) = LacksChain after refl (missing store told)
-  reached (Damaged name damage) (_, _, bad) = elim (bad store told) [
-    | inl header ↦ ReadsBadHeader name damage refl header
-    | inr plan ↦ HasPlan plan.t plan.plan plan.is (Spoilt name damage refl plan.first)
-  ]
-  reached (PageMissing name number) (_, _, missing) = let it = missing store told in HasPlan it.t it.plan it.is (Lacked name number refl it.first)
-  reached StoreFault (_, _, rose) = absurd (is.store_calm rose)
+  reached (Damaged name damage) (_, _, inl header) = ReadsBadHeader name damage refl (header.bad store told)
+  reached (Damaged name damage) (_, _, inr plan) =
+      let it = plan.bad store told in HasPlan it.t it.plan it.is (Spoilt name damage refl it.first)
+  reached (PageMissing name number) (_, _, _, missing) = let it = missing store told in HasPlan it.t it.plan it.is (Lacked name number refl it.first)
+  reached StoreFault (_, _, rose, _) = absurd (is.store_calm rose)
   reached TargetFault (_, rose, _) = absurd (is.calm rose)
-  reached SinkFault (rose, _, untold) = let it = (untold store told).restored in HasPlan it.t it.plan it.is (Made it.state it.makes (inr rose))
+  reached SinkFault (rose, _, untold) =
+      let it = untold.restored.state store told in
+      HasPlan untold.restored.t it.plan it.is (Made it.state it.makes (inr rose))
   reached Memory _ = OutOfMemory refl
   reached NotBuilt never = absurd never
   reached (Usage usage) never = absurd never
+  reached NoDatabase never = absurd never
+  reached (Header fault) never = absurd never
+  reached (SizesDiffer db wal) never = absurd never
+  reached (WalTooLong size) never = absurd never
+  reached (TooLarge size) never = absurd never
+  reached (GateBroken broken) never = absurd never
+  reached TxidSpent never = absurd never
+  reached LiveFault never = absurd never
 
 module _ (laws : Laws) (r : Request) (scene : Scene) (store : Files) where
   no_replica : (why : Why) → AreListed store [] → r.if_replica_exists ≡ false → Reached r scene store why → (why ≡ NoReplica) ⊎ (why ≡ Memory)
@@ -184,13 +201,21 @@ module _ (r : Request) (scene : Scene) (size : ℕ) (is : IsTaken r scene size) 
   exists flag NoMoment (_, lacks, _) = absurd (absent_size _ size (lacks is.target is.told) is.there)
   exists flag (MissingRange after) (_, lacks, _) = absurd (absent_size _ size (lacks is.target is.told) is.there)
   exists flag (Damaged name damage) (_, lacks, _) = absurd (absent_size _ size (lacks is.target is.told) is.there)
-  exists flag (PageMissing name number) (_, lacks, _) = absurd (absent_size _ size (lacks is.target is.told) is.there)
-  exists flag StoreFault (_, lacks, _) = absurd (absent_size _ size (lacks is.target is.told) is.there)
+  exists flag (PageMissing name number) (_, lacks, _, _) = absurd (absent_size _ size (lacks is.target is.told) is.there)
+  exists flag StoreFault (_, lacks, _, _) = absurd (absent_size _ size (lacks is.target is.told) is.there)
   exists flag TargetFault (_, rose, _) = absurd (is.calm rose)
   exists flag SinkFault (_, lacks, _) = absurd (absent_size _ size (lacks is.target is.told) is.there)
   exists flag Memory _ = inr refl
   exists flag NotBuilt never = absurd never
   exists flag (Usage usage) never = absurd never
+  exists flag NoDatabase never = absurd never
+  exists flag (Header fault) never = absurd never
+  exists flag (SizesDiffer db wal) never = absurd never
+  exists flag (WalTooLong size) never = absurd never
+  exists flag (TooLarge size) never = absurd never
+  exists flag (GateBroken broken) never = absurd never
+  exists flag TxidSpent never = absurd never
+  exists flag LiveFault never = absurd never
 
   skipped : r.if_db_not_exists ≡ true → (why : Why) → Explains r scene why → (why ≡ SkippedOutput) ⊎ (why ≡ Memory)
   skipped flag Done (lacks, _) = absurd (absent_size _ size (lacks is.target is.told) is.there)
@@ -201,13 +226,53 @@ module _ (r : Request) (scene : Scene) (size : ℕ) (is : IsTaken r scene size) 
   skipped flag NoMoment (_, lacks, _) = absurd (absent_size _ size (lacks is.target is.told) is.there)
   skipped flag (MissingRange after) (_, lacks, _) = absurd (absent_size _ size (lacks is.target is.told) is.there)
   skipped flag (Damaged name damage) (_, lacks, _) = absurd (absent_size _ size (lacks is.target is.told) is.there)
-  skipped flag (PageMissing name number) (_, lacks, _) = absurd (absent_size _ size (lacks is.target is.told) is.there)
-  skipped flag StoreFault (_, lacks, _) = absurd (absent_size _ size (lacks is.target is.told) is.there)
+  skipped flag (PageMissing name number) (_, lacks, _, _) = absurd (absent_size _ size (lacks is.target is.told) is.there)
+  skipped flag StoreFault (_, lacks, _, _) = absurd (absent_size _ size (lacks is.target is.told) is.there)
   skipped flag TargetFault (_, rose, _) = absurd (is.calm rose)
   skipped flag SinkFault (_, lacks, _) = absurd (absent_size _ size (lacks is.target is.told) is.there)
   skipped flag Memory _ = inr refl
   skipped flag NotBuilt never = absurd never
   skipped flag (Usage usage) never = absurd never
+  skipped flag NoDatabase never = absurd never
+  skipped flag (Header fault) never = absurd never
+  skipped flag (SizesDiffer db wal) never = absurd never
+  skipped flag (WalTooLong size) never = absurd never
+  skipped flag (TooLarge size) never = absurd never
+  skipped flag (GateBroken broken) never = absurd never
+  skipped flag TxidSpent never = absurd never
+  skipped flag LiveFault never = absurd never
+
+module _ (laws : Laws) (r : Request) (scene : Scene) (store : List Event) (told : scene.store ≡ Some store)
+    (history : History) (log : SyncLog) (faithful : IsFaithful (files_after store) history log)
+    (good : HeadersAreGood (files_after store) r) where
+  no_damage : (name : FileName) (damage : Damage) → Explains r scene (Damaged name damage) → ⊥
+  no_damage name damage (_, _, inl header) = let bad = header.bad store told in good bad.names bad.are name damage bad.bad
+  no_damage name damage (_, _, inr plan) =
+      let it = plan.bad store told in
+      let makes = plan_makes laws (files_after store) r history log faithful it.t it.plan it.is in
+      laws.sound (files_after store) it.plan makes.1.read name damage makes.1.are it.first
+
+  no_page_missing : (name : FileName) (number : ℕ) → Explains r scene (PageMissing name number) → ⊥
+  no_page_missing name number (_, _, _, missing) =
+      let it = missing store told in
+      let makes = plan_makes laws (files_after store) r history log faithful it.t it.plan it.is in
+      laws.whole (files_after store) it.plan makes.0 name number makes.1 it.first
+
+  tells_no_damage : (why : Why) → Explains r scene why → TellsNoDamage why
+  tells_no_damage why explains = (
+    λ name damage is. no_damage name damage (subst (λ (answer : Why). Explains r scene answer) is explains),
+    λ name number is. no_page_missing name number (subst (λ (answer : Why). Explains r scene answer) is explains),
+  )
+
+-- nothing refuses before the files are read, where they tell the truth
+may_be_planned : Laws → (files : Files) (r : Request) (history : History) (log : SyncLog) → IsFaithful files history log
+    → LeadsToAsked files r → MayBePlanned files r
+may_be_planned laws files r history log faithful leads = record {
+  some = leads.some;
+  good = true_headers laws files history log faithful r;
+  in_time = leads.in_time;
+  chain = leads.chain;
+}
 
 pub comes_exactly : Laws → (r : Request) (scene : Scene) (why : Why) → Explains r scene why → ComesExactly r scene why
 comes_exactly laws r scene why explains = record {
@@ -221,7 +286,11 @@ comes_exactly laws r scene why explains = record {
   damaged = λ store told free may bad. damaged laws r scene (files_after store) why bad (planned laws r scene (files_after store) why may (reached r scene store told free why explains));
   page_missing = λ store told free may bad. page_missing laws r scene (files_after store) why bad (planned laws r scene (files_after store) why may (reached r scene store told free why explains));
   done = λ store told free may good calm. done laws r scene (files_after store) why good calm (planned laws r scene (files_after store) why may (reached r scene store told free why explains));
-  faithful = λ store told free history log faithful may calm.
+  faithful = λ store told free history log faithful leads calm.
       done laws r scene (files_after store) why (plan_makes laws (files_after store) r history log faithful) calm
-      (planned laws r scene (files_after store) why may (reached r scene store told free why explains));
+      (planned laws r scene (files_after store) why (may_be_planned laws (files_after store) r history log faithful leads)
+      (reached r scene store told free why explains));
+  undamaged = λ store told history log faithful.
+      tells_no_damage laws r scene store told history log faithful
+      (true_headers laws (files_after store) history log faithful r) why explains;
 }

@@ -15,7 +15,7 @@ use Rattle.litestream_core.specs.Laws.{Laws}
 none_some : (found : Option LtxFault) (fault : LtxFault) → found ≡ None → found ≡ Some fault → ⊥
 none_some found fault none some = cc
 
-good_or_bad : Laws → (files : Files) (name : FileName) (header : LtxHeader) (damage : Damage) → IsHeaderUnder files name header → IsHeaderDamage files name damage → ⊥
+pub good_or_bad : Laws → (files : Files) (name : FileName) (header : LtxHeader) (damage : Damage) → IsHeaderUnder files name header → IsHeaderDamage files name damage → ⊥
 good_or_bad laws files name header (File fault) is damaged = none_some _ fault (laws.no_header_fault (bytes_under files (path_of name)) header is.has) damaged
 good_or_bad laws files name header NameDiffers is damaged =
     let same = laws.one_header (bytes_under files (path_of name)) damaged.header header damaged.has is.has in

@@ -3,6 +3,7 @@ pub mod NewestLemmas
 pub mod PlanLemmas
 pub mod CommandLemmas
 pub mod HeaderLemmas
+pub mod TruthLemmas
 pub mod ExactLemmas
 pub mod Theorems
 pub mod CarriesLemmas

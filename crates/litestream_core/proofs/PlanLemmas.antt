@@ -6,8 +6,8 @@ use Rattle.ls_base.specs.State.{State}
 use Rattle.ls_base.specs.SyncLog.{SyncLog, recorded_state}
 use Rattle.replica_store.specs.declared.file_name.FileName.{FileName}
 use Rattle.replica_store.specs.Faithful.{IsFaithful}
+use Rattle.page_cursors.specs.PlanFiles.{Makes}
 use Rattle.restore_apply.specs.RestoreLaws.{MakesRecorded}
-use Rattle.restore_apply.specs.Restoring.{Makes}
 use Rattle.litestream_core.specs.Asked.{IsPlan}
 use Rattle.litestream_core.specs.Laws.{Laws}
 use Rattle.litestream_core.specs.Request.{Request}

@@ -10,32 +10,37 @@ use Rattle.ls_base.specs.State.{State, state_bytes}
 use Rattle.ls_base.specs.SyncLog.{SyncLog}
 use Rattle.replica_store.specs.declared.file_name.FileName.{FileName}
 use Rattle.replica_store.specs.Faithful.{IsFaithful}
-use Rattle.restore_apply.specs.Restoring.{Makes}
-use Rattle.restore_apply.specs.Staging.{WritesFile, MayWriteFile}
+use Rattle.crash_disk.specs.Output.{gains_text}
+use Rattle.restore_apply.specs.Staging.{WritesFile, MayWriteFile, LeavesUnwritten}
 use Rattle.crash_disk.specs.Stop.{LeavesNothing, LeavesAtMost}
 use Rattle.ls_answers.specs.declared.outcome.Why.{Why}
 use Rattle.ls_answers.specs.declared.outcome.Why.TheVariants.{Done, SkippedOutput, SkippedReplica, NotBuilt, Usage, NoReplica, MissingRange, NoMoment, Damaged, PageMissing, OutputExists, StoreFault, TargetFault, SinkFault, Memory}
+use Rattle.ls_answers.specs.declared.outcome.Why.TheVariants.{NoDatabase, Header, SizesDiffer, WalTooLong, TooLarge}
+use Rattle.ls_answers.specs.declared.outcome.Why.TheVariants.{GateBroken, TxidSpent, LiveFault}
 use Rattle.litestream_core.specs.Asked.{IsPlan}
 use Rattle.litestream_core.specs.Command.{Explains, KeepsPromise, IsRecorded, SurvivesAnyStop}
 use Rattle.litestream_core.specs.Laws.{Laws}
 use Rattle.litestream_core.specs.Request.{Request}
+use Rattle.litestream_core.specs.Line.{restored_text}
 use Rattle.litestream_core.specs.Scene.{Scene}
+use Rattle.litestream_core.specs.Written.{AreOfPlan, Restores}
 use Rattle.litestream_core.proofs.PlanLemmas.{plan_recorded}
 
 pub keeps_promise : Laws → (r : Request) (scene : Scene) (why : Why) → Explains r scene why → KeepsPromise r scene why
 keeps_promise laws r scene why explains history log events told faithful is_done =
     let done : Explains r scene Done = subst (λ (answer : Why). Explains r scene answer) is_done explains in
-    let tells = done.1 events told in
+    let tells = done.1 in
     let restored = tells.restored in
+    let made = restored.state events told in
     record {
-      names = restored.is.names;
-      are = restored.is.are;
+      names = made.is.names;
+      are = made.is.are;
       t = restored.t;
-      asked = restored.is.asked;
-      state = restored.state;
-      recorded = plan_recorded laws (files_after events) r history log faithful restored.t restored.plan restored.state restored.is restored.makes;
-      output = restored.output;
-      line = tells.line;
+      asked = made.is.asked;
+      state = made.state;
+      recorded = plan_recorded laws (files_after events) r history log faithful restored.t made.plan made.state made.is made.makes;
+      output = subst (λ (bytes : List ℕ). GoesOn scene.target scene.target_after (WritesFile r.output bytes)) made.are restored.output;
+      line = tells.line ∙ ap (λ (n : ℕ). gains_text scene.text (restored_text restored.t n)) made.count;
     }
 
 some_weaker : (file : Option (List ℕ)) (P Q : List ℕ → Type 0) → ((bytes : List ℕ) → P bytes → Q bytes) → IfSome file P → IfSome file Q
@@ -65,49 +70,65 @@ module _ (laws : Laws) (r : Request) (scene : Scene) (history : History) (log : 
   stop_unchanged : scene.target_after ≡ scene.target → LeavesAtMost r.output Recorded before after
   stop_unchanged same = stop_same r.output Recorded before after (same_events after before scene.target_after told_after (same ∙ told_before)) nothing
 
-  -- what the plan makes was written, or may have been
-  stop_written : (t : ℕ) (plan : List FileName) (state : State) (P : List Event → List Event → Type 0) → IsPlan (files_after store) r t plan → Makes (files_after store) plan state → GoesOn scene.target scene.target_after P
-      → ((x y : List Event) → P x y → LeavesNothing r.output x → LeavesAtMost r.output (λ found. found ≡ state_bytes state) x y) → LeavesAtMost r.output Recorded before after
-  stop_written t plan state P is makes goes holds image was =
+  -- nothing got the name
+  stop_unwritten : GoesOn scene.target scene.target_after (LeavesUnwritten r.output) → LeavesAtMost r.output Recorded before after
+  stop_unwritten goes image was =
       let went = goes.told before told_before in
       let same = same_events went.0 after scene.target_after went.1 told_after in
-      some_weaker (get image r.output) (λ found. found ≡ state_bytes state) Recorded
-      (λ bytes whole. record {
-        names = is.names;
-        are = is.are;
+      none_has (get image r.output) Recorded
+      (went.2.at_a_stop nothing image (subst (λ (es : List Event). WasCrashImageSince es (length before) image) (sym same) was))
+
+  -- what the plan makes was written, or may have been
+  stop_written : (t pages : ℕ) (bytes : List ℕ) (P : List Event → List Event → Type 0) → AreOfPlan (files_after store) r t pages bytes → GoesOn scene.target scene.target_after P
+      → ((x y : List Event) → P x y → LeavesNothing r.output x → LeavesAtMost r.output (λ found. found ≡ bytes) x y) → LeavesAtMost r.output Recorded before after
+  stop_written t pages bytes P made goes holds image was =
+      let went = goes.told before told_before in
+      let same = same_events went.0 after scene.target_after went.1 told_after in
+      some_weaker (get image r.output) (λ found. found ≡ bytes) Recorded
+      (λ found whole. record {
+        names = made.is.names;
+        are = made.is.are;
         t = t;
-        asked = is.asked;
-        state = state;
-        recorded = plan_recorded laws (files_after store) r history log faithful t plan state is makes;
-        same = whole;
+        asked = made.is.asked;
+        state = made.state;
+        recorded = plan_recorded laws (files_after store) r history log faithful t made.plan made.state made.is made.makes;
+        same = whole ∙ made.are;
       })
       (holds before went.0 went.2 nothing image (subst (λ (es : List Event). WasCrashImageSince es (length before) image) (sym same) was))
 
+  stop_restored : Restores r scene → LeavesAtMost r.output Recorded before after
+  stop_restored it = stop_written it.t it.pages it.bytes (WritesFile r.output it.bytes) (it.state store told) it.output (λ x y is. is.at_a_stop)
+
   stop_of : (why : Why) → Explains r scene why → LeavesAtMost r.output Recorded before after
-  stop_of Done (_, tells) =
-      let it = (tells store told).restored in
-      stop_written it.t it.plan it.state (WritesFile r.output (state_bytes it.state)) it.is it.makes it.output (λ x y is. is.at_a_stop)
+  stop_of Done (_, tells) = stop_restored tells.restored
   stop_of SkippedOutput (writes, _, _) = stop_unchanged writes.target
   stop_of (OutputExists size) (writes, _, _) = stop_unchanged writes.target
   stop_of SkippedReplica (writes, _, _, _) = stop_unchanged writes.target
   stop_of NoReplica (writes, _, _, _) = stop_unchanged writes.target
   stop_of NoMoment (writes, _, _) = stop_unchanged writes.target
   stop_of (MissingRange past) (writes, _, _) = stop_unchanged writes.target
-  stop_of (Damaged name damage) (writes, _, _) = stop_unchanged writes.target
-  stop_of (PageMissing name number) (writes, _, _) = stop_unchanged writes.target
-  stop_of StoreFault (writes, _, _) = stop_unchanged writes.target
-  stop_of TargetFault (_, _, may) = elim may [
-    | inl same ↦ stop_unchanged same
-    | inr maybe ↦
-        let it = maybe store told in
-        stop_written it.t it.plan it.state (MayWriteFile r.output (state_bytes it.state)) it.is it.makes it.output (λ x y is. is.at_a_stop)
+  stop_of (Damaged name damage) (_, _, inl header) = stop_unchanged header.target
+  stop_of (Damaged name damage) (_, _, inr plan) = stop_unwritten plan.target.left
+  stop_of (PageMissing name number) (_, _, left, _) = stop_unwritten left.left
+  stop_of StoreFault (_, _, _, inl same) = stop_unchanged same
+  stop_of StoreFault (_, _, _, inr left) = stop_unwritten left.left
+  stop_of TargetFault (_, _, inl same) = stop_unchanged same
+  stop_of TargetFault (_, _, inr may) = elim may.left [
+    | inl unwritten ↦ stop_unwritten unwritten
+    | inr maybe ↦ stop_written maybe.t maybe.pages maybe.bytes (MayWriteFile r.output maybe.bytes) (maybe.state store told) maybe.output (λ x y is. is.at_a_stop)
   ]
-  stop_of SinkFault (_, _, untold) =
-      let it = (untold store told).restored in
-      stop_written it.t it.plan it.state (WritesFile r.output (state_bytes it.state)) it.is it.makes it.output (λ x y is. is.at_a_stop)
+  stop_of SinkFault (_, _, untold) = stop_restored untold.restored
   stop_of Memory writes = stop_unchanged writes.target
   stop_of NotBuilt explains = absurd explains
   stop_of (Usage usage) explains = absurd explains
+  stop_of NoDatabase explains = absurd explains
+  stop_of (Header fault) explains = absurd explains
+  stop_of (SizesDiffer db wal) explains = absurd explains
+  stop_of (WalTooLong size) explains = absurd explains
+  stop_of (TooLarge size) explains = absurd explains
+  stop_of (GateBroken broken) explains = absurd explains
+  stop_of TxidSpent explains = absurd explains
+  stop_of LiveFault explains = absurd explains
 
 pub survives_any_stop : Laws → (r : Request) (scene : Scene) (why : Why) → Explains r scene why → SurvivesAnyStop r scene
 survives_any_stop laws r scene why explains history log store before after told faithful told_before told_after nothing = stop_of laws r scene history log store before after told faithful told_before told_after nothing why explains

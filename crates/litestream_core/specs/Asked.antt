@@ -1,5 +1,5 @@
 -- Which transaction a restore asks for, and the chain of files to it.
-use Rattle.std.specs.Prelude.{◌≡◌, ◌≢◌, ℕ, ◌≤◌, List, [], Option, Some, ℤ, pos, negsuc}
+use Rattle.std.specs.Prelude.{◌≡◌, ◌≢◌, ℕ, ◌≤◌, List, [], length, Option, Some, ℤ, pos, negsuc}
 use Rattle.std.specs.List.{Contains}
 use Rattle.crash_disk.specs.Files.{Files}
 use Rattle.ls_words.specs.declared.command.Target.{Target}
@@ -72,6 +72,7 @@ pub record IsPlan (files : Files) (r : Request) (t : ℕ) (plan : List FileName)
   pub chain : IsChain names t plan
   pub chosen : IsChosenChain names t plan
   pub once : BeginsOnce plan
+  pub fewest : (other : List FileName) → IsChain names t other → length plan ≤ length other
 
 -- no chain leads to the transaction that is asked for
 pub record IsMissing (files : Files) (r : Request) (after : ℕ) : Type 0 where

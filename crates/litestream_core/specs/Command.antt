@@ -13,8 +13,8 @@ use Rattle.replica_store.specs.declared.error.Damage.{Damage}
 use Rattle.replica_store.specs.declared.file_name.FileName.{FileName}
 use Rattle.replica_store.specs.Faithful.{IsFaithful}
 use Rattle.replica_store.specs.Listing.{AreListed}
-use Rattle.restore_apply.specs.Restoring.{Makes, IsFirstDamaged, IsFirstMissing}
-use Rattle.restore_apply.specs.Staging.{WritesFile, MayWriteFile}
+use Rattle.page_cursors.specs.PlanFiles.{IsFirstDamaged, IsFirstMissing}
+use Rattle.restore_apply.specs.Staging.{WritesFile}
 use Rattle.crash_disk.specs.Stop.{LeavesNothing, LeavesAtMost}
 use Rattle.ls_answers.specs.declared.outcome.Why.{Why}
 use Rattle.ls_answers.specs.declared.outcome.Why.TheVariants.{Done, SkippedOutput, SkippedReplica, NotBuilt, Usage, NoReplica, MissingRange, NoMoment, Damaged, PageMissing, OutputExists, StoreFault, TargetFault, SinkFault, Memory}
@@ -22,48 +22,22 @@ use Rattle.litestream_core.specs.Asked.{AreNames, IsAsked, IsPlan, IsMissing, Is
 use Rattle.litestream_core.specs.Line.{restored_text}
 use Rattle.litestream_core.specs.Request.{Request}
 use Rattle.litestream_core.specs.Scene.{Scene}
+use Rattle.litestream_core.specs.Written.{IfFilesTold, LacksOutput, Restores, MayRestore, LeavesNoOutput}
 
 -- why a restore that returned this ended
 abbrev pub why_of : Result (Unit {0}) Why → Why
 why_of (Ok x) = Done
 why_of (Err why) = why
 
--- a fact about the files as they read, asked only where they are told
-abbrev pub IfFilesTold : Told → (Files → Type 0) → Type 0
-IfFilesTold told P = IfTold told (λ events. P (files_after events))
-
--- the output's name is not there
-abbrev pub LacksOutput : Told → Request → Type 0
-LacksOutput target r = IfTold target (λ events. file_at events r.output ≡ None)
-
--- What the plan's files make was written under the output's name.
-pub record Restores (files : Files) (r : Request) (scene : Scene) : Type 0 where
-  pub t : ℕ
-  pub plan : List FileName
-  pub is : IsPlan files r t plan
-  pub state : State
-  pub makes : Makes files plan state
-  pub output : GoesOn scene.target scene.target_after (WritesFile r.output (state_bytes state))
-
 -- the line was printed as well
-pub record RestoresAndTells (files : Files) (r : Request) (scene : Scene) : Type 0 where
-  pub restored : Restores files r scene
-  pub line : scene.text_after ≡ gains_text scene.text (restored_text restored.t (length restored.state.pages))
+pub record RestoresAndTells (r : Request) (scene : Scene) : Type 0 where
+  pub restored : Restores r scene
+  pub line : scene.text_after ≡ gains_text scene.text (restored_text restored.t restored.pages)
 
 -- or a front of it
-pub record RestoresUntold (files : Files) (r : Request) (scene : Scene) : Type 0 where
-  pub restored : Restores files r scene
-  pub line : GainsFront scene.text scene.text_after (restored_text restored.t (length restored.state.pages))
-
--- what the plan's files make, or nothing, was written while the target failed
-pub record MayRestore (files : Files) (r : Request) (scene : Scene) : Type 0 where
-  pub absent : LacksOutput scene.target r
-  pub t : ℕ
-  pub plan : List FileName
-  pub is : IsPlan files r t plan
-  pub state : State
-  pub makes : Makes files plan state
-  pub output : GoesOn scene.target scene.target_after (MayWriteFile r.output (state_bytes state))
+pub record RestoresUntold (r : Request) (scene : Scene) : Type 0 where
+  pub restored : Restores r scene
+  pub line : GainsFront scene.text scene.text_after (restored_text restored.t restored.pages)
 
 -- a file of the plan is damaged
 pub record IsDamagedPlan (files : Files) (r : Request) (name : FileName) (damage : Damage) : Type 0 where
@@ -79,6 +53,16 @@ pub record IsMissingPage (files : Files) (r : Request) (name : FileName) (number
   pub is : IsPlan files r t plan
   pub first : IsFirstMissing files plan name number
 
+-- a header that was looked at is damaged, and the target didn't change
+pub record FindsBadHeader (r : Request) (scene : Scene) (name : FileName) (damage : Damage) : Type 0 where
+  pub target : scene.target_after ≡ scene.target
+  pub bad : IfFilesTold scene.store (λ files. IsBadHeader files r name damage)
+
+-- a file of the plan is damaged, and no output is left
+pub record FindsDamage (r : Request) (scene : Scene) (name : FileName) (damage : Damage) : Type 0 where
+  pub target : LeavesNoOutput r scene
+  pub bad : IfFilesTold scene.store (λ files. IsDamagedPlan files r name damage)
+
 -- neither the target nor the text changed
 pub record WritesNothing (scene : Scene) : Type 0 where
   pub target : scene.target_after ≡ scene.target
@@ -87,7 +71,7 @@ pub record WritesNothing (scene : Scene) : Type 0 where
 -- What each answer to a request means. A later step's answer comes only where no earlier step refused.
 abbrev pub Explains : Request → Scene → Why → Type 0
 Explains r scene Done =
-    LacksOutput scene.target r × IfFilesTold scene.store (λ files. RestoresAndTells files r scene)
+    LacksOutput scene.target r × RestoresAndTells r scene
 Explains r scene SkippedOutput =
     WritesNothing scene × (r.if_db_not_exists ≡ true)
     × IfTold scene.target (λ events. IsSome (file_at events r.output))
@@ -105,22 +89,23 @@ Explains r scene NoMoment =
 Explains r scene (MissingRange after) =
     WritesNothing scene × LacksOutput scene.target r × IfFilesTold scene.store (λ files. IsMissing files r after)
 Explains r scene (Damaged name damage) =
-    WritesNothing scene × LacksOutput scene.target r
-    × IfFilesTold scene.store (λ files. IsBadHeader files r name damage ⊎ IsDamagedPlan files r name damage)
+    (scene.text_after ≡ scene.text) × LacksOutput scene.target r
+    × (FindsBadHeader r scene name damage ⊎ FindsDamage r scene name damage)
 Explains r scene (PageMissing name number) =
-    WritesNothing scene × LacksOutput scene.target r
+    (scene.text_after ≡ scene.text) × LacksOutput scene.target r × LeavesNoOutput r scene
     × IfFilesTold scene.store (λ files. IsMissingPage files r name number)
 Explains r scene StoreFault =
-    WritesNothing scene × LacksOutput scene.target r × Rose scene.store_faults scene.store_faults_after
+    (scene.text_after ≡ scene.text) × LacksOutput scene.target r × Rose scene.store_faults scene.store_faults_after
+    × ((scene.target_after ≡ scene.target) ⊎ LeavesNoOutput r scene)
 Explains r scene TargetFault =
     (scene.text_after ≡ scene.text) × Rose scene.target_faults scene.target_faults_after
-    × ((scene.target_after ≡ scene.target) ⊎ IfFilesTold scene.store (λ files. MayRestore files r scene))
+    × ((scene.target_after ≡ scene.target) ⊎ MayRestore r scene)
 Explains r scene SinkFault =
-    Rose scene.sink_faults scene.sink_faults_after × LacksOutput scene.target r
-    × IfFilesTold scene.store (λ files. RestoresUntold files r scene)
+    Rose scene.sink_faults scene.sink_faults_after × LacksOutput scene.target r × RestoresUntold r scene
 Explains r scene Memory = WritesNothing scene
 Explains r scene NotBuilt = ⊥
 Explains r scene (Usage usage) = ⊥
+Explains r scene other = ⊥
 
 -- The promise, for each history and sync log to which the store is faithful: what is written is the state that the
 -- log records for the transaction that is asked for, and the line says how many pages it has.

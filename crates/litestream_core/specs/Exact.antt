@@ -13,7 +13,7 @@ use Rattle.replica_store.specs.Dating.{IsFirstBadHeader}
 use Rattle.replica_store.specs.Faithful.{IsFaithful}
 use Rattle.replica_store.specs.Listing.{AreListed}
 use Rattle.ls_base.specs.State.{State}
-use Rattle.restore_apply.specs.Restoring.{Makes, IsFirstDamaged, IsFirstMissing}
+use Rattle.page_cursors.specs.PlanFiles.{Makes, IsFirstDamaged, IsFirstMissing}
 use Rattle.ls_answers.specs.declared.outcome.Why.{Why}
 use Rattle.ls_answers.specs.declared.outcome.Why.TheVariants.{Done, SkippedOutput, SkippedReplica, NoReplica, MissingRange, NoMoment, Damaged, PageMissing, OutputExists, Memory}
 use Rattle.litestream_core.specs.Asked.{AreNames, IsAsked, IsOfMoment, LacksMoment, HasBadHeader, IsPlan, IsMissing}
@@ -61,6 +61,12 @@ HasNoneOf files moment =
 abbrev pub HasNoChain : Files → Request → Type 0
 HasNoChain files r =
     (names : List FileName) → AreNames files names → (t : ℕ) → IsAsked files names r.target t → IsRetained names t → ⊥
+
+-- there are names, and a chain leads to the transaction that is asked for
+pub record LeadsToAsked (files : Files) (r : Request) : Type 0 where
+  pub some : AreListed files [] → ⊥
+  pub in_time : IsInTime files r
+  pub chain : (after : ℕ) → IsMissing files r after → ⊥
 
 -- a chain leads to the transaction that is asked for, and nothing refuses before the plan's files are read
 pub record MayBePlanned (files : Files) (r : Request) : Type 0 where
@@ -110,6 +116,12 @@ WhereFree r scene P = (store : List Event) → scene.store ≡ Some store → Is
 abbrev pub HasNames : Files → Type 0
 HasNames files = AreListed files [] → ⊥
 
+-- the answer tells of no damage and of no page that is missing
+abbrev pub TellsNoDamage : Why → Type 0
+TellsNoDamage why =
+    ((name : FileName) (damage : Damage) → why ≡ Damaged name damage → ⊥)
+    × ((name : FileName) (number : ℕ) → why ≡ PageMissing name number → ⊥)
+
 pub record ComesExactly (r : Request) (scene : Scene) (why : Why) : Type 0 where
   pub output_exists : (size : ℕ) → IsTaken r scene size → r.if_db_not_exists ≡ false → Answers why (OutputExists size)
   pub skipped_output : (size : ℕ) → IsTaken r scene size → r.if_db_not_exists ≡ true
@@ -130,4 +142,7 @@ pub record ComesExactly (r : Request) (scene : Scene) (why : Why) : Type 0 where
       → NotRisen scene.sink_faults scene.sink_faults_after → Answers why Done)
   -- a store that tells the truth is never damaged and lacks no page
   pub faithful : WhereFree r scene (λ files. (history : History) (log : SyncLog) → IsFaithful files history log
-      → MayBePlanned files r → NotRisen scene.sink_faults scene.sink_faults_after → Answers why Done)
+      → LeadsToAsked files r → NotRisen scene.sink_faults scene.sink_faults_after → Answers why Done)
+  -- also where a disk failed
+  pub undamaged : (store : List Event) → scene.store ≡ Some store → (history : History) (log : SyncLog)
+      → IsFaithful (files_after store) history log → TellsNoDamage why

@@ -3,6 +3,7 @@ pub mod Request
 pub mod RequestView
 pub mod Line
 pub mod Asked
+pub mod Written
 pub mod Command
 pub mod Exact
 pub mod Preparing

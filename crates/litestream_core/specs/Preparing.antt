@@ -16,8 +16,8 @@ use Rattle.restore_plan.specs.declared.chain.PlanFault.TheVariants as plan
 use Rattle.ls_answers.specs.declared.outcome.Why.{Why}
 use Rattle.ls_answers.specs.declared.outcome.Why.TheVariants.{Done, SkippedOutput, SkippedReplica, NotBuilt, Usage, NoReplica, MissingRange, NoMoment, Damaged, PageMissing, OutputExists, StoreFault, TargetFault, SinkFault, Memory}
 use Rattle.litestream_core.specs.Asked.{IsMissing, IsBefore, IsBadHeader, IsTooEarly, HasBadHeaderAt}
-use Rattle.litestream_core.specs.Command.{LacksOutput, IfFilesTold}
 use Rattle.litestream_core.specs.Request.{Request}
+use Rattle.litestream_core.specs.Written.{LacksOutput, IfFilesTold}
 
 -- the refusal that a fault of an `attach` becomes
 abbrev pub IsRefusalOf : Why → NamesFault → Why → Type 0
@@ -62,6 +62,7 @@ ExplainsOutput r target before now (Damaged name damage) = ⊥
 ExplainsOutput r target before now (PageMissing name number) = ⊥
 ExplainsOutput r target before now StoreFault = ⊥
 ExplainsOutput r target before now SinkFault = ⊥
+ExplainsOutput r target before now other = ⊥
 
 -- why the replica gives no plan
 abbrev pub ExplainsReading : Request → Told → ℕ → ℕ → Why → Type 0
@@ -82,6 +83,7 @@ ExplainsReading r store before now (PageMissing name number) = ⊥
 ExplainsReading r store before now (OutputExists size) = ⊥
 ExplainsReading r store before now TargetFault = ⊥
 ExplainsReading r store before now SinkFault = ⊥
+ExplainsReading r store before now other = ⊥
 
 -- why there is no transaction of a moment
 abbrev pub ExplainsMoment : Told → ℕ → ℕ → List FileName → ℤ → Why → Type 0
@@ -101,6 +103,7 @@ ExplainsMoment store before now names moment (PageMissing name number) = ⊥
 ExplainsMoment store before now names moment (OutputExists size) = ⊥
 ExplainsMoment store before now names moment TargetFault = ⊥
 ExplainsMoment store before now names moment SinkFault = ⊥
+ExplainsMoment store before now names moment other = ⊥
 
 -- why a restore didn't come so far that it could write
 abbrev pub ExplainsPrepare : Request → Told → ℕ → ℕ → Told → ℕ → ℕ → Why → Type 0

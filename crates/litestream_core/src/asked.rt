@@ -3,7 +3,7 @@
 ghost use Rattle.std.specs.Prelude.{◌≡◌, ◌≢◌, ◌≤◌, [], IfOk, IfErr};
 ghost use Rattle.replica_store.specs.Chain.{IsListOrdered};
 ghost use Rattle.litestream_core.specs.Asked.{AreNames, IsNewest, IsOfMoment, IsAsked};
-ghost use Rattle.litestream_core.specs.Command.{IfFilesTold};
+ghost use Rattle.litestream_core.specs.Written.{IfFilesTold};
 ghost use Rattle.litestream_core.specs.Preparing.{why_of_error, ExplainsMoment, ExplainsReading};
 ghost use Rattle.litestream_core.specs.RequestView.{as_request};
 

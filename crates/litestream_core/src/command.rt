@@ -1,6 +1,6 @@
 //! Carrying out a command.
 
-ghost use Rattle.std.specs.Prelude.{◌≡◌, None, OnOk, IfErr};
+ghost use Rattle.std.specs.Prelude.{◌≡◌, ◌<◌, None, OnOk, IfErr};
 ghost use Rattle.ls_answers.specs.declared.outcome.Why.TheVariants.{Done};
 ghost use Rattle.ls_answers.specs.Outcome.{status_of};
 ghost use Rattle.ls_answers.specs.Refusal.{refusal_text, said_text};
@@ -20,10 +20,13 @@ use crate::prepare::prepare;
 use crate::request::{Request, request_in};
 use crash_disk::{Disk, Out};
 use ls_answers::{Outcome, Why, say};
+use ls_base::Steps;
 use ls_words::{Words, WordsFault, read_words};
 use ltx_command::list_replica;
 use restore_apply::RestoreFault;
 use std::alloc::Global;
+use std::marker::Brand;
+use std::sync::ledger::{Blank, Ledger};
 
 fn refusal(fault: RestoreFault) -> Why
     ensures { result ≡ why_of_fault fault }
@@ -37,13 +40,19 @@ fn refusal(fault: RestoreFault) -> Why
     }
 }
 
-fn restore<S: Disk, T: Disk, O: Out>(
+/// Restores what the request asks for, and prints the line. The blank is for the count of pages that are read, which
+/// nobody looks at here.
+fn restore<L: Ledger, S: Disk, T: Disk, O: Out>(
     alloc: Global,
     request: &Request<'_>,
     store: &mut S,
     target: &mut T,
     out: &mut O,
+    blank: Blank,
 ) -> Result<(), Why>
+    requires name { blank.name ≡ L.name }
+    requires parts { blank.parts ≡ L.parts }
+    requires some_parts { 0 < blank.parts }
     ensures explained { Explains (as_request request.now) (scene_of S.Disk T.Disk O.Out
         (as_request request.now) store.old store.new target.old target.new out.old out.new) (why_of result) }
     ensures not_done { IfErr result (λ why. why ≡ Done → ⊥) }
@@ -54,7 +63,8 @@ fn restore<S: Disk, T: Disk, O: Out>(
 {
     let ready = prepare(alloc, request, store, target)?;
     let plan = ready.plan.as_slice();
-    let applied = restore_apply::restore(alloc, store, target, request.output, plan);
+    let mut steps = Steps::<L>::new(blank);
+    let applied = restore_apply::restore(alloc, store, target, request.output, plan, &mut steps);
     let restored = match applied {
         Ok(restored) => restored,
         Err(fault) => return Err(refusal(fault)),
@@ -93,7 +103,8 @@ fn carry_out<S: Disk, T: Disk, O: Out>(
         Err(WordsFault::Memory) => return Why::Memory,
     };
     if let Some(request) = request_in(&command) {
-        return cause_of(restore(alloc, &request, store, target, out));
+        let blank = Blank::new(1);
+        return cause_of(restore::<Brand, S, T, O>(alloc, &request, store, target, out, blank));
     }
     if let Some(replica) = listed_in(&command) {
         return list_replica(alloc, replica, store, out);

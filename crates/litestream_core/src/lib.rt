@@ -8,7 +8,7 @@
 //! makes this one call on the real objects. `restore` and `ltx` are the commands that are built.
 //!
 //! Stands on `ls_base`, `crash_disk`, `ls_words`, `replica_store`, `restore_plan`, `restore_apply`, `ls_answers` and
-//! `ltx_command`, on `ltx_format` for its proofs alone, and on `itoa` and `arrayvec` for the line that is printed.
+//! `ltx_command`, on `ltx_format` and `page_cursors` for its proofs alone, and on `itoa` and `arrayvec` for the line that is printed.
 #![tactic(auto)]
 
 mod asked;

@@ -4,7 +4,7 @@ ghost use Rattle.std.specs.Prelude.{◌≡◌, ◌≢◌, ◌≤◌, [], Some, I
 ghost use Rattle.replica_store.specs.Chain.{IsListOrdered};
 ghost use Rattle.ls_answers.specs.declared.outcome.Why.TheVariants.{StoreFault, TargetFault};
 ghost use Rattle.litestream_core.specs.Asked.{AreNames, IsPlan, AreAttached};
-ghost use Rattle.litestream_core.specs.Command.{LacksOutput, IfFilesTold};
+ghost use Rattle.litestream_core.specs.Written.{LacksOutput, IfFilesTold};
 ghost use Rattle.litestream_core.specs.Preparing.{IsRefusalOf, why_of_plan, ExplainsOutput, ExplainsReading, ExplainsPrepare};
 ghost use Rattle.litestream_core.specs.RequestView.{as_request};
 
