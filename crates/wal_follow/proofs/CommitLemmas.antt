@@ -1,6 +1,6 @@
 -- The commit of a mark, among the commits of a log and their entries.
-use Rattle.std.proofs.Common.{◌≡◌, ℕ, ◌+◌, ◌-◌, ◌*◌, ◌/◌, ◌<◌, ◌≤◌, min, Bool, true, false, cond, List, [], ◌∷◌, ◌++◌, length, take, drop, Option, Some, None, refl, sym, ap, subst, ◌∙◌, inl, inr, append_assoc, arith, length-append}
-use Rattle.std.specs.Prelude.{◌⊎◌, ◌≢◌, ◌==◌}
+use Rattle.std.proofs.Common.{◌≡◌, ℕ, ◌*◌, ◌≤◌, min, Bool, true, false, cond, List, [], ◌∷◌, ◌++◌, length, Option, Some, None, refl, sym, ap, subst, ◌∙◌, inl, inr, append_assoc, arith, length-append}
+use Rattle.std.specs.Prelude.{◌≢◌, ◌==◌}
 use Rattle.std.specs.Option.{option_or}
 use Rattle.std.specs.List.{Contains, flat_map}
 use Rattle.std.proofs.lemmas.Bool.{eq-eqb, ne_eqb}
@@ -13,12 +13,11 @@ use Rattle.ls_base.specs.State.{State, page_of}
 use Rattle.ls_base.specs.History.{state_of}
 use Rattle.wal_frames.specs.declared.header.WalHeader.{WalHeader}
 use Rattle.wal_frames.specs.WalFrame.{frame_length, commit_size}
-use Rattle.wal_frames.specs.Marks.{end_of, mark_of, marks_behind}
+use Rattle.wal_frames.specs.Marks.{end_of, marks_behind}
 use Rattle.wal_frames.specs.View.{frames_page}
 use Rattle.wal_frames.proofs.MarkLemmas.{marks-append, is_behind}
 use Rattle.live_gate.specs.Legal.{Commit, all_frames, NoneCommits, commit_mark, FitsCommit, AreEntries, last_state}
 use Rattle.live_gate.proofs.CommitLemmas.{commit_marks}
-use Rattle.live_gate.proofs.MoveLemmas.{last_state-append}
 use Rattle.live_gate.proofs.StillLegalLemmas.{frames_page-append}
 use Rattle.wal_follow.specs.Piece.{least_met, least_size}
 

@@ -1,7 +1,7 @@
 -- The salts of a log's header, read again.
-use Rattle.std.proofs.Common.{◌≡◌, ℕ, ◌+◌, ◌<◌, ◌≤◌, Bool, true, false, List, [], ◌∷◌, ◌++◌, length, take, drop, Option, Some, None, Result, Ok, Err, refl, sym, ap, subst, ◌∙◌, inl, inr, arith}
-use Rattle.std.specs.Prelude.{◌⊎◌, ◌≢◌, ◌==◌, ◌&&◌, if◌then◌else◌, IsErrOf, IsOk, IfOk}
-use Rattle.std.proofs.lemmas.List.{length-take, take_all}
+use Rattle.std.proofs.Common.{◌≡◌, ℕ, ◌+◌, ◌≤◌, Bool, true, false, List, ◌++◌, length, take, drop, Option, Some, None, Result, Ok, Err, refl, sym, ap, subst, ◌∙◌, inl, inr, arith}
+use Rattle.std.specs.Prelude.{◌⊎◌, ◌≢◌, ◌==◌, ◌&&◌, if◌then◌else◌, IsErrOf}
+use Rattle.std.proofs.lemmas.List.{take_all}
 use Rattle.ls_base.specs.declared.mark.Mark.{Mark}
 use Rattle.ls_base.specs.declared.place.Place.{Place}
 use Rattle.ls_base.specs.declared.place.Place.TheVariants.{Wal, Rest}
@@ -13,11 +13,10 @@ use Rattle.wal_frames.specs.Marks.{IsMark, place_of}
 use Rattle.wal_frames.proofs.AcceptedLemmas.{accepts, read_header-take}
 use Rattle.wal_frames.proofs.MarkLemmas.{mark_stands}
 use Rattle.live_gate.specs.declared.fault.LiveFault.{LiveFault}
-use Rattle.live_gate.specs.LiveRecord.{Database, LiveRecord, IsPrefix}
+use Rattle.live_gate.specs.LiveRecord.{Database, LiveRecord}
 use Rattle.live_gate.specs.LiveCalls.{AgreeInFront, Aims, read_offset}
 use Rattle.live_gate.specs.Step.{IsWriterStep}
 use Rattle.live_gate.proofs.StepLemmas.{step_join}
-use Rattle.snapshot_read.specs.Reading.{IsUnderGate}
 use Rattle.wal_follow.specs.declared.following.Following.{Following}
 use Rattle.wal_follow.specs.declared.following.Target.{Target}
 use Rattle.wal_follow.specs.Calls.{salts_of, salts_in, salts_answer, IsAnswerToSalts, Confirms}
@@ -26,8 +25,8 @@ use Rattle.wal_follow.specs.declared.fault.Broken.TheVariants.{Salts, Short}
 use Rattle.wal_follow.specs.declared.fault.FollowFault.{FollowFault}
 use Rattle.wal_follow.specs.declared.fault.FollowFault.TheVariants.{Header, SizesDiffer, WalTooLong, TooLarge, GateBroken, Live, Memory}
 use Rattle.std.proofs.lemmas.Bool.{and_parts, and_from, eqb-true, eq-eqb}
-use Rattle.wal_follow.specs.Following.{is_in_log, FitsFoundMark, FitsTarget, FitsCalm, Fits}
-use Rattle.wal_follow.specs.LogReading.{Fills, HasRead, IsEnough}
+use Rattle.wal_follow.specs.Following.{is_in_log, FitsFoundMark, FitsTarget, Fits}
+use Rattle.wal_follow.specs.LogReading.{Fills}
 use Rattle.wal_follow.proofs.FitsLemmas.{fits_stays, still_accepted}
 use Rattle.wal_follow.proofs.ReadLemmas.{keeps_hold}
 

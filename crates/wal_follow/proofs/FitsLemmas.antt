@@ -1,6 +1,5 @@
 -- A follower that fits goes on fitting while the gate is held.
-use Rattle.std.proofs.Common.{◌≡◌, ℕ, ◌+◌, ◌<◌, ◌≤◌, Bool, true, false, List, [], ◌∷◌, ◌++◌, length, take, Option, Some, None, Ok, refl, sym, ap, subst, ◌∙◌, inl, inr, append_assoc, arith, length-append}
-use Rattle.std.specs.Prelude.{option_map}
+use Rattle.std.proofs.Common.{◌≡◌, ℕ, false, List, ◌∷◌, ◌++◌, length, take, Option, Some, Ok, sym, ap, subst, ◌∙◌, append_assoc, arith, length-append}
 use Rattle.std.proofs.lemmas.List.{take-append-le}
 use Rattle.ls_base.specs.declared.entry.Entry.{Entry}
 use Rattle.ls_base.specs.declared.mark.Mark.{Mark}
@@ -12,7 +11,7 @@ use Rattle.ls_base.proofs.HistoryLemmas.{state_at-grown}
 use Rattle.wal_frames.specs.declared.header.WalHeader.{WalHeader}
 use Rattle.wal_frames.specs.WalFormat.{read_header}
 use Rattle.wal_frames.specs.ValidPrefix.{valid_frames, frames_under}
-use Rattle.wal_frames.specs.Marks.{marks_of, IsMark}
+use Rattle.wal_frames.specs.Marks.{IsMark}
 use Rattle.wal_frames.specs.View.{frames_to, file_pages, rest_place}
 use Rattle.wal_frames.proofs.AcceptedLemmas.{accepts, read_header-append}
 use Rattle.wal_frames.proofs.LogLemmas.{stays_mark, ends_within}
@@ -21,11 +20,10 @@ use Rattle.wal_frames.proofs.ViewLemmas.{frames_to_cut}
 use Rattle.live_gate.specs.LiveRecord.{Database, IsPrefix}
 use Rattle.live_gate.specs.Step.{IsWriterStep, KeepsHold}
 use Rattle.snapshot_read.specs.Offsets.{offset_in}
-use Rattle.snapshot_read.specs.Reading.{IsUnderGate}
 use Rattle.wal_follow.specs.declared.following.Following.{Following}
 use Rattle.wal_follow.specs.declared.following.Target.{Target}
 use Rattle.wal_follow.specs.PieceLaws.{StandsBefore}
-use Rattle.wal_follow.specs.Following.{AreOffsetsAt, FitsPassed, FitsRecorded, FitsFoundMark, FitsFoundRest, FitsTarget, HasLearned, FitsCalm, Fits}
+use Rattle.wal_follow.specs.Following.{FitsPassed, FitsRecorded, FitsFoundMark, FitsFoundRest, FitsTarget, FitsCalm, Fits}
 use Rattle.wal_follow.proofs.ReadLemmas.{keeps_hold}
 
 -- ---- logs that grow

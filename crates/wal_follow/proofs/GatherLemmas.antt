@@ -1,15 +1,13 @@
 -- Frames that are gathered from a log.
-use Rattle.std.proofs.Common.{◌≡◌, ℕ, zero, suc, ◌+◌, ◌-◌, ◌*◌, ◌/◌, ◌<◌, ◌≤◌, min, Bool, true, false, cond, List, [], ◌∷◌, ◌++◌, length, take, Option, Some, None, Ok, refl, sym, ap, subst, ◌∙◌, inl, inr, append_assoc, arith, length-append, get_or, nat_cmp}
-use Rattle.std.specs.Prelude.{◌⊎◌, ◌≢◌, ◌==◌, if◌then◌else◌}
+use Rattle.std.proofs.Common.{◌≡◌, ℕ, zero, suc, ◌+◌, ◌-◌, ◌*◌, ◌/◌, ◌<◌, ◌≤◌, min, Bool, cond, List, [], ◌∷◌, ◌++◌, length, take, Option, Some, None, Ok, refl, sym, ap, subst, ◌∙◌, inl, inr, append_assoc, arith, length-append, get_or}
+use Rattle.std.specs.Prelude.{◌≢◌, ◌==◌, if◌then◌else◌}
 use Rattle.std.specs.Option.{option_or}
 use Rattle.std.specs.FinMap.{get, insert}
-use Rattle.std.specs.List.{last_or}
 use Rattle.std.proofs.lemmas.Bool.{eq-eqb, ne_eqb, cases_eq}
 use Rattle.std.proofs.lemmas.List.{append-nil}
 use Rattle.std.proofs.Math.Nat.{mul-div_left, add-mul}
 use Rattle.ls_base.specs.declared.mark.Mark.{Mark}
 use Rattle.ls_base.specs.declared.place.Place.{Place}
-use Rattle.ls_base.proofs.ChangeLemmas.{get-insert_at}
 use Rattle.std.specs.FinMap.{get-insert}
 use Rattle.std.specs.Cmp.{nat_cmp_total, unsigned_tied}
 use Rattle.wal_frames.specs.declared.header.WalHeader.{WalHeader}
@@ -18,10 +16,10 @@ use Rattle.wal_frames.specs.WalFrame.{frame_length, page_number, commit_size}
 use Rattle.wal_frames.specs.ValidPrefix.{valid_frames, frames_under}
 use Rattle.wal_frames.specs.Marks.{end_of, mark_of, place_of, last_mark_of}
 use Rattle.wal_frames.specs.View.{frames_up_to}
-use Rattle.wal_frames.specs.Scanned.{Scanned, HasTaken, EndsFrame, TakesFrame}
+use Rattle.wal_frames.specs.Scanned.{Scanned, HasTaken, EndsFrame}
 use Rattle.wal_frames.proofs.MarkLemmas.{last-more, last_is, valid_is, end-more}
 use Rattle.live_gate.specs.Legal.{NoneCommits}
-use Rattle.snapshot_read.specs.Offsets.{offset_in, AreOffsets}
+use Rattle.snapshot_read.specs.Offsets.{offset_in}
 use Rattle.snapshot_read.specs.PageOffsets.{Offsets}
 use Rattle.wal_follow.specs.declared.gathering.Gathering.{Gathering}
 use Rattle.wal_follow.specs.declared.gathering.PageOffset.{PageOffset}

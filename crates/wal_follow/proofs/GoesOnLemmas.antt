@@ -1,7 +1,6 @@
 -- What is told goes on.
-use Rattle.std.proofs.Common.{◌≡◌, Some, None}
+use Rattle.std.proofs.Common.{◌≡◌, Some}
 use Rattle.live_gate.specs.LiveRecord.{LiveRecord, Told, GoesOn}
-use Rattle.live_gate.specs.Step.{IsWriterStep}
 
 -- what follows from what holds of a call
 pub goes_map : (old new : Told) (P Q : LiveRecord → LiveRecord → Type 0) → GoesOn old new P

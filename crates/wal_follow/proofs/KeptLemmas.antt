@@ -1,10 +1,9 @@
 -- A follower's state from call to call.
-use Rattle.std.proofs.Common.{◌≡◌, ℕ, ◌+◌, ◌^◌, ◌<◌, ◌≤◌, Bool, true, false, length, Option, Some, None, Ok, refl, sym, ap, subst, ◌∙◌, inl, inr, arith, nat_cmp}
+use Rattle.std.proofs.Common.{◌≡◌, ℕ, ◌+◌, ◌^◌, ◌<◌, ◌≤◌, Bool, true, false, length, Option, Some, None, refl, sym, ap, ◌∙◌, inl, inr, arith, nat_cmp}
 use Rattle.std.specs.Prelude.{option_map, if◌then◌else◌}
 use Rattle.std.specs.Option.{option_or}
-use Rattle.std.specs.FinMap.{FinMap, get, empty, get-empty}
+use Rattle.std.specs.FinMap.{get, empty, get-empty}
 use Rattle.std.proofs.lemmas.Bool.{cases_eq}
-use Rattle.ls_base.specs.declared.mark.Mark.{Mark}
 use Rattle.ls_base.specs.declared.place.Place.{Place}
 use Rattle.ls_base.specs.declared.place.Place.TheVariants.{Wal, Rest}
 use Rattle.ls_base.specs.State.{State}
@@ -14,13 +13,12 @@ use Rattle.wal_frames.specs.View.{view_at}
 use Rattle.wal_frames.proofs.ViewLemmas.{is_view}
 use Rattle.live_gate.specs.LiveRecord.{Database}
 use Rattle.live_gate.specs.Legal.{IsLegal}
-use Rattle.snapshot_read.specs.Offsets.{AreWithinLimit, offset_in}
+use Rattle.snapshot_read.specs.Offsets.{AreWithinLimit}
 use Rattle.snapshot_read.specs.PageOffsets.{Offsets, IsTakenIn}
 use Rattle.snapshot_read.specs.Reading.{IsUnderGate}
 use Rattle.wal_follow.specs.declared.following.Following.{Following}
 use Rattle.wal_follow.specs.declared.following.Target.{Target}
-use Rattle.wal_follow.specs.Following.{is_in_log, gathered_at, HasLearned, FitsRecorded, FitsFoundMark, FitsTarget, FitsCalm, Fits}
-use Rattle.wal_follow.specs.Kept.{IsReady}
+use Rattle.wal_follow.specs.Following.{is_in_log, gathered_at, FitsRecorded, FitsFoundMark, FitsTarget, FitsCalm, Fits}
 use Rattle.wal_follow.proofs.PieceLemmas.{marks_have_their_view}
 
 -- ---- bounds

@@ -11,3 +11,14 @@ pub mod ConfirmLemmas
 pub mod PassedLemmas
 pub mod NextLemmas
 pub mod WantedLemmas
+pub mod SinceLemmas
+pub mod ChangedLemmas
+pub mod FoundLemmas
+pub mod AtMarkLemmas
+pub mod LogFoundLemmas
+pub mod HeaderLemmas
+pub mod LogReadLemmas
+pub mod LogGatherLemmas
+pub mod AtRestLemmas
+pub mod FollowsLemmas
+pub mod FollowsLogLemmas

@@ -1,13 +1,13 @@
 -- A piece applied to a state that has what the piece leaves out.
-use Rattle.std.proofs.Common.{◌≡◌, ℕ, ◌+◌, ◌<◌, ◌≤◌, Bool, cond, List, [], ◌∷◌, ◌++◌, length, replicate, Option, Some, None, Ok, refl, sym, ap, subst, ◌∙◌, inl, inr, arith}
-use Rattle.std.specs.Prelude.{◌⊎◌, ◌≢◌, IsSome, unwrap_or, ◌==◌}
+use Rattle.std.proofs.Common.{◌≡◌, ℕ, ◌<◌, ◌≤◌, Bool, cond, List, ◌++◌, length, replicate, Option, Some, None, Ok, refl, sym, ap, subst, ◌∙◌, inl, inr, arith}
+use Rattle.std.specs.Prelude.{◌⊎◌, ◌≢◌, IsSome, unwrap_or}
 use Rattle.std.specs.Option.{option_or}
 use Rattle.std.specs.FinMap.{get}
 use Rattle.std.proofs.lemmas.Bool.{cases_lt, cases_eq, ne_eqb}
 use Rattle.ls_base.specs.PageSize.{lock_page}
 use Rattle.ls_base.specs.State.{State, IsState, empty_state, page_of}
 use Rattle.ls_base.specs.Change.{Change, IsApplicable, page_after, apply}
-use Rattle.ls_base.proofs.StateLemmas.{page_of-there, page_of-past, same_states}
+use Rattle.ls_base.proofs.StateLemmas.{page_of-there, same_states}
 use Rattle.ls_base.proofs.ChangeLemmas.{page_after-lock, page_after-other, length-apply, page_of-apply}
 use Rattle.ls_base.specs.declared.mark.Mark.{Mark}
 use Rattle.wal_frames.specs.declared.header.WalHeader.{WalHeader}
@@ -16,7 +16,7 @@ use Rattle.wal_frames.specs.ValidPrefix.{valid_frames}
 use Rattle.wal_frames.specs.View.{frames_to, frames_page, file_page, unless_locked, view_at}
 use Rattle.wal_frames.proofs.ViewLemmas.{is_view}
 use Rattle.live_gate.proofs.StillLegalLemmas.{frames_page-append}
-use Rattle.wal_follow.specs.Piece.{least_size, IsRegrown, IsChanged, IsPieceSince, IsWhole}
+use Rattle.wal_follow.specs.Piece.{least_size, IsChanged, IsPieceSince, IsWhole}
 use Rattle.wal_follow.specs.PieceLaws.{Makes}
 
 -- ---- a change that has each page of a state that another lacks

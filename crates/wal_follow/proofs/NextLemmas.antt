@@ -1,7 +1,5 @@
 -- What each step of the follower keeps.
-use Rattle.std.proofs.Common.{◌≡◌, ℕ, ◌≤◌, Bool, Option, Some, None, Result, Ok, Err, refl, sym, ap, subst, ◌∙◌, arith}
-use Rattle.std.specs.Prelude.{IsErrOf}
-use Rattle.ls_base.specs.Fault.{Rose}
+use Rattle.std.proofs.Common.{◌≡◌, ℕ, ◌≤◌, Bool, Option, Some, None, Result, Ok, Err, sym, ap, subst, ◌∙◌, arith}
 use Rattle.ls_base.specs.declared.place.Place.{Place}
 use Rattle.live_gate.specs.declared.fault.LiveFault.{LiveFault}
 use Rattle.snapshot_read.specs.Offsets.{AreWithinLimit}

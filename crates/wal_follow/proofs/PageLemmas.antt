@@ -1,5 +1,5 @@
 -- The pages of what was found.
-use Rattle.std.proofs.Common.{◌≡◌, ℕ, ◌+◌, ◌-◌, ◌*◌, ◌^◌, ◌<◌, ◌≤◌, Bool, true, false, List, [], ◌∷◌, ◌++◌, length, take, drop, Option, Some, None, Result, Ok, Err, refl, sym, ap, subst, ◌∙◌, inl, inr, arith}
+use Rattle.std.proofs.Common.{◌≡◌, ℕ, ◌+◌, ◌-◌, ◌*◌, ◌^◌, ◌≤◌, Bool, false, List, length, take, drop, Option, Some, None, Result, Ok, Err, refl, sym, ap, subst, ◌∙◌, arith}
 use Rattle.std.specs.Prelude.{option_map, unwrap_or, IsErrOf, OnOk, is_ok}
 use Rattle.std.specs.FinMap.{get}
 use Rattle.std.specs.Simd.{first_chunks}
@@ -26,13 +26,11 @@ use Rattle.wal_frames.specs.Marks.{IsMark, place_of}
 use Rattle.wal_frames.specs.View.{frames_up_to, frames_to, frames_page, file_page, unless_locked, view_at, view_at_rest, page_at_rest, file_pages}
 use Rattle.wal_frames.proofs.LogLemmas.{one_mark_an_end, ends_within}
 use Rattle.wal_frames.proofs.ViewLemmas.{view_by_front, is_view, frames_to_chunks, mark_long, page_made}
-use Rattle.live_gate.specs.LiveRecord.{Database, LiveRecord}
-use Rattle.live_gate.specs.LiveCalls.{read_offset}
+use Rattle.live_gate.specs.LiveRecord.{LiveRecord}
 use Rattle.snapshot_read.specs.declared.fault.PageFault.{PageFault}
 use Rattle.snapshot_read.specs.declared.fault.PageFault.TheVariants as page
-use Rattle.snapshot_read.specs.Offsets.{offset_in, log_page, mapped_page, LiesWithin, AreOffsets}
+use Rattle.snapshot_read.specs.Offsets.{offset_in, log_page, mapped_page, LiesWithin}
 use Rattle.snapshot_read.specs.PageOffsets.{Offsets}
-use Rattle.snapshot_read.specs.ReadLaws.{AreOffsetsTo}
 use Rattle.snapshot_read.specs.Reading.{ReadsPage, IsUnderGate}
 use Rattle.wal_follow.specs.declared.following.Following.{Following}
 use Rattle.wal_follow.specs.declared.following.Target.{Target}

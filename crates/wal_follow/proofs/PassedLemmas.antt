@@ -1,6 +1,5 @@
 -- A pass at the follower's place.
-use Rattle.std.proofs.Common.{◌≡◌, ℕ, ◌+◌, ◌≤◌, Bool, true, false, List, [], ◌∷◌, ◌++◌, length, Option, Some, None, Result, Ok, Err, refl, sym, ap, subst, ◌∙◌, inl, inr, append_assoc, arith}
-use Rattle.std.specs.Prelude.{◌⊎◌}
+use Rattle.std.proofs.Common.{◌≡◌, ℕ, true, List, [], ◌∷◌, ◌++◌, length, Option, Some, None, Result, Ok, Err, sym, ap, ◌∙◌, inl, inr, append_assoc, arith}
 use Rattle.std.specs.List.{slice_get}
 use Rattle.ls_base.specs.declared.entry.Entry.{Entry}
 use Rattle.ls_base.specs.declared.place.Place.{Place}
@@ -14,12 +13,11 @@ use Rattle.wal_frames.specs.WalFormat.{read_header}
 use Rattle.wal_frames.specs.Marks.{marks_of}
 use Rattle.wal_frames.proofs.LogLemmas.{no_marks}
 use Rattle.live_gate.specs.LiveRecord.{Database}
-use Rattle.live_gate.specs.Legal.{HasCommits, IsAtRest, IsRecorded, IsLegal}
+use Rattle.live_gate.specs.Legal.{IsAtRest, IsRecorded, IsLegal}
 use Rattle.live_gate.specs.LiveCalls.{TakesPlace}
 use Rattle.live_gate.proofs.CommitLemmas.{no_log}
-use Rattle.snapshot_read.specs.Resting.{IsRest}
 use Rattle.wal_follow.specs.declared.following.Following.{Following}
-use Rattle.wal_follow.specs.Following.{is_in_log, FitsPassed, FitsCalm, Fits, HasLearned}
+use Rattle.wal_follow.specs.Following.{is_in_log, FitsCalm, Fits}
 use Rattle.wal_follow.proofs.PieceLemmas.{slice_get-seam}
 
 -- the last elements of one list are the same

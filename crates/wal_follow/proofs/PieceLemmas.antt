@@ -1,6 +1,6 @@
 -- A piece leads from the state at its place to the view at its mark.
-use Rattle.std.proofs.Common.{◌≡◌, ℕ, ◌+◌, ◌-◌, ◌*◌, ◌/◌, ◌<◌, ◌≤◌, List, [], ◌∷◌, ◌++◌, length, take, drop, map, Option, Some, None, Result, Ok, refl, sym, ap, subst, ◌∙◌, inl, inr, append_assoc, arith, length-append}
-use Rattle.std.specs.Prelude.{◌⊎◌, ◌≢◌, unwrap_or}
+use Rattle.std.proofs.Common.{◌≡◌, ℕ, ◌+◌, ◌-◌, ◌*◌, ◌/◌, ◌≤◌, List, [], ◌∷◌, ◌++◌, length, take, drop, map, Option, Some, None, Result, Ok, refl, sym, ap, subst, ◌∙◌, inl, inr, append_assoc, arith, length-append}
+use Rattle.std.specs.Prelude.{unwrap_or}
 use Rattle.std.specs.List.{Contains, flat_map, slice_get, range_with_len}
 use Rattle.std.proofs.lemmas.Bool.{cases_lt}
 use Rattle.std.proofs.lemmas.List.{append-nil, length-map, drop_at, take_at, take-append-drop}
@@ -9,7 +9,6 @@ use Rattle.std.proofs.lemmas.List.Elements.{Contains-append_cases}
 use Rattle.std.proofs.Math.Nat.{mul-div_left}
 use Rattle.ls_base.specs.declared.entry.Entry.{Entry}
 use Rattle.ls_base.specs.declared.mark.Mark.{Mark}
-use Rattle.ls_base.specs.declared.place.Place.{Place}
 use Rattle.ls_base.specs.State.{State, page_of}
 use Rattle.ls_base.specs.Change.{Change}
 use Rattle.ls_base.specs.History.{History, state_of, state_at}
@@ -18,15 +17,15 @@ use Rattle.wal_frames.specs.declared.header.WalHeader.{WalHeader}
 use Rattle.wal_frames.specs.declared.fault.WalHeaderFault.{WalHeaderFault}
 use Rattle.wal_frames.specs.declared.fault.WalHeaderFault.TheVariants.{Short}
 use Rattle.wal_frames.specs.WalFormat.{read_header}
-use Rattle.wal_frames.specs.WalFrame.{frame_length, commit_size}
+use Rattle.wal_frames.specs.WalFrame.{frame_length}
 use Rattle.wal_frames.specs.ValidPrefix.{valid_frames}
-use Rattle.wal_frames.specs.Marks.{end_of, mark_of, marks_behind, marks_of, IsMark, place_of}
+use Rattle.wal_frames.specs.Marks.{end_of, marks_behind, marks_of, IsMark, place_of}
 use Rattle.wal_frames.specs.View.{frames_up_to, frames_to, frames_page, file_page, unless_locked, view_under, view_at}
 use Rattle.wal_frames.proofs.LogLemmas.{no_marks, one_mark_an_end}
 use Rattle.wal_frames.proofs.MarkLemmas.{marks-append, marks_are, valid_is}
 use Rattle.wal_frames.proofs.ViewLemmas.{view_is}
 use Rattle.live_gate.specs.LiveRecord.{Database}
-use Rattle.live_gate.specs.Legal.{Commit, all_frames, commit_mark, FitsCommit, AreEntries, HasCommits, IsAtRest, IsRecorded, IsLegal, last_state}
+use Rattle.live_gate.specs.Legal.{Commit, all_frames, commit_mark, FitsCommit, AreEntries, HasCommits, IsRecorded, IsLegal, last_state}
 use Rattle.live_gate.proofs.CommitLemmas.{entries_places, no_log}
 use Rattle.live_gate.proofs.MoveLemmas.{last_state-append}
 use Rattle.live_gate.proofs.StillLegalLemmas.{frames_here}

@@ -1,19 +1,19 @@
 -- A log that is read piece by piece while its writer moves.
-use Rattle.std.proofs.Common.{◌≡◌, ℕ, zero, suc, ◌+◌, ◌-◌, ◌^◌, ◌<◌, ◌≤◌, min, Bool, true, false, List, [], ◌∷◌, ◌++◌, length, take, drop, Option, Some, None, Ok, Err, refl, sym, ap, subst, ◌∙◌, inl, inr, arith, length-append, append_assoc}
-use Rattle.std.specs.Prelude.{◌⊎◌, IsOk, Result}
+use Rattle.std.proofs.Common.{◌≡◌, ℕ, ◌+◌, ◌-◌, ◌≤◌, Bool, true, false, List, [], ◌∷◌, ◌++◌, length, take, drop, Option, Ok, Err, refl, sym, ap, subst, ◌∙◌, inl, inr, arith, length-append, append_assoc}
+use Rattle.std.specs.Prelude.{◌⊎◌, Result}
 use Rattle.std.proofs.lemmas.Bool.{cases_lt}
-use Rattle.std.proofs.lemmas.List.{append-nil, length-take, take-append-drop, drop-drop, drop-append-le, drop_all, drop_at}
+use Rattle.std.proofs.lemmas.List.{append-nil, length-take, drop-drop, drop-append-le, drop_all}
 use Rattle.ls_base.specs.Fault.{Rose}
 use Rattle.live_gate.specs.declared.fault.LiveFault.{LiveFault}
 use Rattle.live_gate.specs.LiveRecord.{Database, LiveRecord, IsPrefix}
-use Rattle.live_gate.specs.LiveCalls.{AgreeInFront, Answers, Reads, read_offset, capped}
+use Rattle.live_gate.specs.LiveCalls.{AgreeInFront, Answers, Reads, read_offset}
 use Rattle.live_gate.specs.Coincidence.{IsReadByChecksums}
 use Rattle.live_gate.specs.Step.{IsWriterStep, KeepsHold, HasStopped}
 use Rattle.live_gate.proofs.StepLemmas.{step_itself, step_join}
 use Rattle.snapshot_read.specs.Reading.{IsUnderGate, AsksOfTheLog}
 use Rattle.live_gate.specs.LiveRecord.{Asked}
 use Rattle.snapshot_read.proofs.ReadLemmas.{asks_nothing, asks_then}
-use Rattle.wal_follow.specs.LogReading.{HasRead, IsEnough, Fills, ReadsOn}
+use Rattle.wal_follow.specs.LogReading.{HasRead, Fills, ReadsOn}
 use Rattle.wal_follow.specs.Gathering.{HasGathered}
 use Rattle.wal_follow.specs.declared.gathering.Gathering.{Gathering}
 use Rattle.wal_follow.specs.declared.fault.FollowFault.{FollowFault}
@@ -227,7 +227,7 @@ pub record IsReadOn (all left : ℕ) (before after : Gathering) (old new : LiveR
   pub bytes : List ℕ
   pub read : HasRead bytes old new
   pub count : length bytes + left ≡ all
-  pub awake : 1 ≤ length bytes → new.database.stopped ≡ false
+  pub awake : old.database.stopped ≡ false → new.database.stopped ≡ false
   pub gathers : (base : ℕ) (initial : Option ℕ) (log : List ℕ) → HasGathered base initial before log
       → HasGathered base initial after (log ++ bytes)
 
@@ -236,7 +236,7 @@ read_begins left g r = record {
   bytes = [];
   read = read_nothing r;
   count = omega arith;
-  awake = λ some. absurd (omega (arith, some));
+  awake = λ is. is;
   gathers = λ base initial log was. subst (λ (l : List ℕ). HasGathered base initial g l) (sym (append-nil log)) was;
 }
 
@@ -258,7 +258,7 @@ read_goes_on all left count part before mid after old now new so_far reads few w
     within,
     so_far.count,
   );
-  awake = λ some. awake_now so_far.bytes part count old now new so_far.read reads;
+  awake = λ was. awake_now so_far.bytes part count old now new so_far.read reads;
   gathers = λ base initial log was.
       subst (λ (l : List ℕ). HasGathered base initial after l) (append_assoc log so_far.bytes (take count part))
       (gathers base initial (log ++ so_far.bytes) (so_far.gathers base initial log was));
@@ -275,7 +275,7 @@ read_stops all left part before after old now new so_far reads =
       step = read.step;
       asked = read.asked;
       taken = omega (arith, read.taken, so_far.count);
-      awake = λ some ok. awake;
+      awake = λ was ok. awake;
       read = (
         so_far.bytes,
         read,
@@ -294,7 +294,7 @@ read_all all before after old new so_far = record {
   step = so_far.read.step;
   asked = so_far.read.asked;
   taken = omega (arith, so_far.read.taken, so_far.count);
-  awake = λ some ok. so_far.awake (omega (arith, some, so_far.count));
+  awake = λ was ok. so_far.awake was;
   read = (
     so_far.bytes,
     so_far.read,

@@ -1,7 +1,7 @@
 -- The numbers of the pages of a piece.
 use Rattle.std.proofs.Common.{◌≡◌, ℕ, zero, suc, ◌+◌, ◌<◌, ◌≤◌, min, Bool, true, false, cond, List, [], ◌∷◌, ◌++◌, length, take, Option, Some, None, refl, sym, ap, subst, ◌∙◌, get_or, inl, inr, arith, length-take}
-use Rattle.std.specs.Prelude.{◌≢◌, ◌↔◌, ◌⊎◌, ◌==◌, ◌||◌, nat_lt, is_some}
-use Rattle.std.specs.List.{All, AllPairs, Contains, filter, slice_get}
+use Rattle.std.specs.Prelude.{◌≢◌, ◌⊎◌, ◌==◌, ◌||◌, nat_lt, is_some}
+use Rattle.std.specs.List.{All, Contains, filter, slice_get}
 use Rattle.std.specs.FinMap.{get, keys, contains_key-keys}
 use Rattle.std.proofs.lemmas.Bool.{cases_eq, cases_lt, ltb-true, ltb-false, lt-ltb, le-ltb, eqb-true, eqb-false, ne_eqb}
 use Rattle.std.specs.List.Sorted.{IsStrictlyIncreasing}

@@ -1,9 +1,8 @@
 -- What is asked of a live database before its log is read, and what the answers are.
-use Rattle.std.specs.Prelude.{◌≡◌, ◌≢◌, ℕ, ◌<◌, ◌≤◌, Bool, false, List, take, Some, Result, Ok, Err, IsOk, IfOk, length}
+use Rattle.std.specs.Prelude.{◌≡◌, ℕ, ◌<◌, ◌≤◌, false, take, Some, Result, Ok, Err, IsOk, IfOk, length}
 use Rattle.ls_base.specs.Limits.{log_limit}
 use Rattle.db_page.specs.DatabaseHeader.{IsFirstFault}
 use Rattle.live_gate.specs.LiveRecord.{LiveRecord}
-use Rattle.live_gate.specs.LiveCalls.{IsCall}
 use Rattle.live_gate.specs.Step.{IsWriterStep}
 use Rattle.wal_follow.specs.declared.fault.FollowFault.{FollowFault}
 use Rattle.wal_follow.specs.declared.fault.FollowFault.TheVariants.{Header, SizesDiffer, WalTooLong, TooLarge, GateBroken, Live, Memory}

@@ -1,6 +1,5 @@
 -- What each call of a follower does.
-use Rattle.std.specs.Prelude.{◌≡◌, ◌≢◌, ℕ, ◌-◌, ◌+◌, ◌*◌, ◌/◌, ◌≤◌, ◌==◌, ◌&&◌, if◌then◌else◌, Bool, true, false, List, Option, Some, None, option_map, Result, Ok, Err, IsOk, IsErr, IsErrOf, IfOk, OnOk, OnErr}
-use Rattle.std.specs.FinMap.{get}
+use Rattle.std.specs.Prelude.{◌≡◌, ◌≢◌, ℕ, ◌-◌, ◌+◌, ◌/◌, ◌≤◌, ◌==◌, ◌&&◌, if◌then◌else◌, Bool, true, false, List, Option, Some, None, Result, Ok, Err, IsOk, IsErrOf, IfOk, OnOk, OnErr}
 use Rattle.ls_base.specs.declared.mark.Mark.{Mark}
 use Rattle.ls_base.specs.declared.place.Place.{Place}
 use Rattle.ls_base.specs.declared.place.Place.TheVariants.{Wal, Rest}
@@ -68,7 +67,8 @@ pub record Follows (f after : Following) (result : Result Next FollowFault) (old
   pub awake : IsOk result → new.database.stopped ≡ false
   pub answers : IsLegal old.database → new.database.chances ≡ 0 → Answers f result old.database new.database
   pub order : AnswersInOrder result new
-  pub behind : IsReadBehind f old new
+  -- the header that is read again says by chance alone that the log is another
+  pub behind : new.database.chances ≡ 0 → IsReadBehind f old new
   pub fits : IsLegal old.database → new.database.stopped ≡ false → Fits after new.database
   pub passes : (new.asked.passes_asked ≡ old.asked.passes_asked) × (new.asked.passes_done ≡ old.asked.passes_done)
 

@@ -14,7 +14,7 @@ use Rattle.wal_frames.specs.ValidPrefix.{valid_frames}
 use Rattle.wal_frames.specs.Marks.{IsMark, place_of}
 use Rattle.wal_frames.specs.View.{frames_to, file_pages, rest_place}
 use Rattle.live_gate.specs.LiveRecord.{Database}
-use Rattle.snapshot_read.specs.Offsets.{offset_in, AreOffsets}
+use Rattle.snapshot_read.specs.Offsets.{offset_in}
 use Rattle.snapshot_read.specs.PageOffsets.{Offsets}
 use Rattle.snapshot_read.specs.Reading.{IsUnderGate}
 use Rattle.snapshot_read.specs.Resting.{IsRest}

@@ -1,5 +1,5 @@
 -- What gathering the frames of a log gives.
-use Rattle.std.specs.Prelude.{◌≡◌, ℕ, ◌≤◌, List, Option, Some, None, Result, Ok, Err}
+use Rattle.std.specs.Prelude.{◌≡◌, ℕ, List, Option, Some, None, Result, Ok, Err}
 use Rattle.wal_frames.specs.declared.header.WalHeader.{WalHeader}
 use Rattle.wal_frames.specs.Marks.{last_mark_of}
 use Rattle.wal_frames.specs.Scanned.{HasTaken}

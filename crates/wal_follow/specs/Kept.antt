@@ -1,5 +1,5 @@
 -- What a follower always has.
-use Rattle.std.specs.Prelude.{◌≡◌, ◌≤◌, ℕ, Bool, true, Some, None}
+use Rattle.std.specs.Prelude.{◌≡◌, ◌≤◌, true, Some, None}
 use Rattle.std.specs.FinMap.{len}
 use Rattle.ls_base.specs.PageSize.{IsPageSize}
 use Rattle.snapshot_read.specs.Offsets.{AreWithinLimit}

@@ -13,3 +13,6 @@ pub mod FollowLaws
 pub mod Steps
 pub mod Offset
 pub mod Gathers
+pub mod AtMark
+pub mod LogGathering
+pub mod AtRest

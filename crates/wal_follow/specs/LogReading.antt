@@ -1,5 +1,5 @@
 -- What reading a log piece by piece gives.
-use Rattle.std.specs.Prelude.{◌≡◌, ℕ, ◌+◌, ◌≤◌, Bool, false, List, ◌++◌, length, take, drop, Option, Some, Result, Ok, Err, IsOk, IfOk, OnOk, ◌⊎◌}
+use Rattle.std.specs.Prelude.{◌≡◌, ℕ, ◌+◌, ◌≤◌, false, List, ◌++◌, length, take, drop, Option, Result, Ok, Err, IsOk, IfOk, OnOk, ◌⊎◌}
 use Rattle.live_gate.specs.declared.fault.LiveFault.{LiveFault}
 use Rattle.live_gate.specs.LiveRecord.{LiveRecord}
 use Rattle.live_gate.specs.LiveCalls.{AgreeInFront, read_offset}
@@ -42,7 +42,7 @@ pub record ReadsOn
   pub step : IsWriterStep old.database new.database
   pub asked : AsksOfTheLog old.asked new.asked
   pub taken : new.asked.taken ≤ old.asked.taken + left
-  pub awake : 1 ≤ left → IsOk result → new.database.stopped ≡ false
+  pub awake : old.database.stopped ≡ false → IsOk result → new.database.stopped ≡ false
   pub read : OnOk result ((bytes : List ℕ) × HasRead bytes old new × IsEnough left bytes old
       × ((base : ℕ) (initial : Option ℕ) (log : List ℕ) → HasGathered base initial before log
       → HasGathered base initial after (log ++ bytes)))

@@ -1,5 +1,5 @@
 -- What the piece makes of the states of a history.
-use Rattle.std.specs.Prelude.{◌≡◌, ℕ, ◌≤◌, List, ◌∷◌, ◌++◌, length, Some, None, Ok}
+use Rattle.std.specs.Prelude.{◌≡◌, ℕ, ◌≤◌, List, ◌∷◌, ◌++◌, length, Some, Ok}
 use Rattle.std.specs.FinMap.{get}
 use Rattle.ls_base.specs.declared.entry.Entry.{Entry}
 use Rattle.ls_base.specs.declared.mark.Mark.{Mark}
@@ -14,7 +14,7 @@ use Rattle.wal_frames.specs.Marks.{marks_of, IsMark, place_of}
 use Rattle.wal_frames.specs.View.{frames_to, view_at}
 use Rattle.live_gate.specs.LiveRecord.{Database}
 use Rattle.live_gate.specs.Legal.{IsLegal}
-use Rattle.wal_follow.specs.Piece.{frames_between, least_size, IsRegrown, IsPieceSince, IsWhole}
+use Rattle.wal_follow.specs.Piece.{frames_between, IsPieceSince, IsWhole}
 
 -- ---- the piece applied
 

@@ -1,25 +1,23 @@
 -- The small steps of `next`.
-use Rattle.std.specs.Prelude.{◌≡◌, ℕ, ◌<◌, ◌≤◌, ◌==◌, ◌&&◌, if◌then◌else◌, nat_le, Bool, true, false, List, Option, Some, None, Result, Ok, Err}
+use Rattle.std.specs.Prelude.{◌≡◌, ℕ, ◌==◌, ◌&&◌, if◌then◌else◌, nat_le, Bool, true, false, Option, Some, None, Result, Ok, Err}
 use Rattle.ls_base.specs.declared.mark.Mark.{Mark}
 use Rattle.ls_base.specs.declared.place.Place.{Place}
 use Rattle.ls_base.specs.declared.place.Place.TheVariants.{Wal, Rest}
 use Rattle.ls_base.specs.Place.{is_same_place}
 use Rattle.wal_frames.specs.declared.header.WalHeader.{WalHeader}
-use Rattle.wal_follow.specs.declared.answer.Found.{Found}
 use Rattle.wal_follow.specs.declared.answer.Next.{Next}
-use Rattle.wal_follow.specs.declared.answer.Next.TheVariants.{Same, Piece, Lost}
+use Rattle.wal_follow.specs.declared.answer.Next.TheVariants.{Piece, Lost}
 use Rattle.wal_follow.specs.declared.answer.Wanted.{Wanted}
 use Rattle.wal_follow.specs.declared.answer.Wanted.TheVariants.{All, Listed}
 use Rattle.wal_follow.specs.declared.fault.FollowFault.{FollowFault}
 use Rattle.wal_follow.specs.declared.fault.FollowFault.TheVariants.{Header, SizesDiffer, WalTooLong, TooLarge, GateBroken, Live, Memory}
-use Rattle.wal_follow.specs.declared.following.Following.{Following}
-use Rattle.wal_follow.specs.declared.following.Target.{Target}
 
--- the end of a place in the log, 0 for one at rest
-abbrev pub place_end : Option Place → ℕ
-place_end (Some (Wal a b end s0 s1)) = end
-place_end (Some (Rest sum)) = 0
-place_end None = 0
+-- The offset behind which the frames of a piece from a place on stand: its end in the log, or 0 where a pass emptied the
+-- log there.
+abbrev pub behind : Bool → Option Place → Option ℕ
+behind passed (Some (Wal a b end s0 s1)) = Some (if passed then 0 else end)
+behind passed (Some (Rest sum)) = None
+behind passed None = None
 
 -- the mark of a place in the log with so many pages
 abbrev pub mark_at : Option Place → Option ℕ → Option Mark
@@ -53,16 +51,16 @@ next_of size place commit (Listed numbers) =
     Piece (record { size = size; place = place; commit = commit; wanted = Listed numbers })
 next_of size place commit All = Lost (record { size = size; place = place; commit = commit; wanted = All })
 
--- the answers that there are where the log has a commit
-abbrev pub IsMarkAnswer : Result Next FollowFault → Type 0
-IsMarkAnswer (Ok value) = Unit {0}
-IsMarkAnswer (Err (Header fault)) = ⊥
-IsMarkAnswer (Err (SizesDiffer db wal)) = Unit {0}
-IsMarkAnswer (Err (WalTooLong n)) = ⊥
-IsMarkAnswer (Err (TooLarge n)) = Unit {0}
-IsMarkAnswer (Err (GateBroken broken)) = ⊥
-IsMarkAnswer (Err (Live fault)) = ⊥
-IsMarkAnswer (Err Memory) = Unit {0}
+-- the answers that there are where the log has a commit and the database file has this page size
+abbrev pub IsMarkAnswer : ℕ → Result Next FollowFault → Type 0
+IsMarkAnswer size (Ok value) = Unit {0}
+IsMarkAnswer size (Err (Header fault)) = ⊥
+IsMarkAnswer size (Err (SizesDiffer db wal)) = db ≡ size
+IsMarkAnswer size (Err (WalTooLong n)) = ⊥
+IsMarkAnswer size (Err (TooLarge n)) = Unit {0}
+IsMarkAnswer size (Err (GateBroken broken)) = ⊥
+IsMarkAnswer size (Err (Live fault)) = ⊥
+IsMarkAnswer size (Err Memory) = Unit {0}
 
 -- the answers that there are where it has none
 abbrev pub IsRestAnswer : Result Next FollowFault → Type 0

@@ -10,6 +10,7 @@ ghost use Rattle.live_gate.specs.LiveCalls.{Keeps};
 ghost use Rattle.wal_follow.specs.Calls.{FollowHasCause};
 ghost use Rattle.wal_follow.specs.Steps as steps;
 ghost use Rattle.wal_follow.specs.Gathers.{KeepsPlaces, IsGatherAnswer, IsHeadAnswer, IsGathered};
+ghost use Rattle.wal_follow.specs.LogGathering.{AsksHead, GathersLog, GathersFrom, Gathers};
 
 use crate::fault::FollowFault;
 use crate::following::Following;
@@ -48,6 +49,7 @@ impl Following {
         bytes: u64,
     ) -> Result<Option<Gathered>, FollowFault>
         requires short { bytes ≤ log_limit }
+        ensures told { GoesOn (L.told live.old) (L.told live.new) (Gathers bytes self.old self.new result) }
         ensures keeps_places { KeepsPlaces self.old self.new }
         ensures answer { IsGatherAnswer self.new result }
         ensures keeps { Keeps (L.attached live.old) (L.attached live.new) (L.is_there live.old) (L.is_there live.new) }
@@ -107,6 +109,8 @@ impl Following {
     ) -> Result<Option<Gathered>, FollowFault>
         requires short { bytes ≤ log_limit }
         requires room { 1 ≤ length buffer.old }
+        ensures told { GoesOn (L.told live.old) (L.told live.new)
+            (GathersFrom bytes mark.now self.old self.new result) }
         ensures keeps_places { KeepsPlaces self.old self.new }
         ensures answer { IsGatherAnswer self.new result }
         ensures keeps { Keeps (L.attached live.old) (L.attached live.new) (L.is_there live.old) (L.is_there live.new) }
@@ -136,6 +140,8 @@ impl Following {
     ) -> Result<Option<Gathered>, FollowFault>
         requires short { bytes ≤ log_limit }
         requires room { 1 ≤ length buffer.old }
+        ensures told { GoesOn (L.told live.old) (L.told live.new)
+            (GathersLog bytes head self.old self.new result) }
         ensures keeps_places { KeepsPlaces self.old self.new }
         ensures answer { IsGatherAnswer self.new result }
         ensures keeps { Keeps (L.attached live.old) (L.attached live.new) (L.is_there live.old) (L.is_there live.new) }
@@ -202,14 +208,17 @@ fn log_header<L: Live>(
     buffer: &mut [u8],
 ) -> Result<Option<WalHeader>, FollowFault>
     requires room { 32 ≤ length buffer.old }
+    ensures told { GoesOn (L.told live.old) (L.told live.new) (AsksHead bytes result) }
     ensures length { length buffer.new ≡ length buffer.old }
     ensures keeps { Keeps (L.attached live.old) (L.attached live.new) (L.is_there live.old) (L.is_there live.new) }
     ensures answer { IsHeadAnswer result }
     ensures cause { FollowHasCause (L.fault_count live.old) (L.fault_count live.new) result }
 {
     live.aim(0)?;
-    let room = LOG_HEADER_BYTES.min(bytes as usize);
-    let count = fill(live, &mut buffer[..room])?;
+    if bytes < LOG_HEADER_BYTES as u64 {
+        return Ok(None);
+    }
+    let count = fill(live, &mut buffer[..LOG_HEADER_BYTES])?;
     match read_wal_header(&buffer[..count]) {
         Ok(head) => Ok(Some(head)),
         Err(_) => Ok(None),

@@ -1,6 +1,6 @@
 //! What became of a live database since the follower's place.
 
-ghost use Rattle.std.specs.Prelude.{◌≡◌, ◌≤◌, ◌<◌, ℕ, List, Option, Some, None, length, OnOk, IfErr, if◌then◌else◌};
+ghost use Rattle.std.specs.Prelude.{◌≡◌, ◌≤◌, ◌<◌, ◌*◌, ◌^◌, ℕ, List, Option, Some, None, length, OnOk, IfOk, IfErr, if◌then◌else◌};
 ghost use Rattle.ls_base.specs.Limits.{database_limit, log_limit};
 ghost use Rattle.wal_follow.specs.Steps as steps;
 ghost use Rattle.wal_follow.specs.declared.fault.FollowFault.TheVariants.{TooLarge};
@@ -8,7 +8,10 @@ ghost use Rattle.live_gate.specs.LiveRecord.{IfTold, GoesOn};
 ghost use Rattle.live_gate.specs.LiveCalls.{Keeps};
 ghost use Rattle.wal_follow.specs.Following.{Fits};
 ghost use Rattle.wal_follow.specs.Calls.{Follows, Learns, FollowHasCause, NeverBroken};
+ghost use Rattle.wal_follow.specs.AtRest.{pages_in, AnswersAtRest};
 ghost use Rattle.wal_follow.specs.Kept.{IsReady};
+ghost use Rattle.wal_follow.specs.AtMark.{IsAsked, FollowsMark};
+ghost use Rattle.wal_follow.specs.Gathering.{is_place};
 ghost use Rattle.wal_follow.specs.Steps.{IsMarkAnswer, IsRestAnswer, IsCountAnswer};
 
 use crate::answer::{Found, Next, Wanted};
@@ -31,6 +34,7 @@ impl Follower {
     /// valid has no commit.
     pub fn next<L: Live>(&mut self, live: &mut L) -> Result<Next, FollowFault>
         requires fits { IfTold (L.told live.old) (λ r. Fits self.old r.database) }
+        ensures told { GoesOn (L.told live.old) (L.told live.new) (Follows self.old self.new result) }
         ensures learns { Learns result self.old self.new }
         ensures never { NeverBroken result }
         ensures keeps { Keeps (L.attached live.old) (L.attached live.new) (L.is_there live.old) (L.is_there live.new) }
@@ -61,7 +65,8 @@ impl Following {
         requires ready { IsReady self.old }
         ensures ready { IsReady self.new }
         ensures learns { Learns result self.old self.new }
-        ensures answer { IsMarkAnswer result }
+        ensures answer { IsMarkAnswer size result }
+        ensures told { FollowsMark self.old self.new at.now result }
     {
         if at.size != size {
             return Err(FollowFault::SizesDiffer {
@@ -71,13 +76,20 @@ impl Following {
         }
         check_bytes(at.mark.commit as u64 * size.get() as u64)?;
         let place = place_of(&at.mark);
-        if self.place == Some(place) {
+        if self.is_at(place) {
             self.learn(size, at.mark.commit);
             return Ok(Next::Same);
         }
         self.kept.reserve(self.newer.len())?;
         let wanted = self.wanted(alloc, size, at)?;
         Ok(self.answer(size, place, at.mark.commit, wanted))
+    }
+
+    /// Whether this is the follower's place.
+    fn is_at(&self, place: Place) -> bool
+        ensures { result ≡ is_place self.now.place place }
+    {
+        self.place == Some(place)
     }
 
     /// Learns the page size, and how many pages the state at the place has, where no pass emptied the log there.
@@ -94,17 +106,28 @@ impl Following {
     }
 
     /// Which pages are to be stored: those of the piece, or all where the log doesn't lead on from the place.
-    fn wanted(&self, alloc: Global, size: PageSize, at: &Gathered) -> Result<Wanted, Memory> {
+    fn wanted(&self, alloc: Global, size: PageSize, at: &Gathered) -> Result<Wanted, Memory>
+        ensures { IfOk result (IsAsked self.now at.now size) }
+    {
         let Some(least) = at.least else {
             return Ok(Wanted::All);
         };
-        let behind = if self.passed {
-            0
-        } else {
-            place_end(self.place)
+        let Some(behind) = self.behind() else {
+            return Ok(Wanted::All);
         };
         let list = wanted_pages(alloc, &self.newer, behind, size, least, at.mark.commit)?;
         Ok(Wanted::Listed(list))
+    }
+
+    /// The offset behind which the frames of a piece stand: the end of the place in the log, or 0 where a pass
+    /// emptied the log there.
+    fn behind(&self) -> Option<u64>
+        ensures { result ≡ steps.behind self.now.passed self.now.place }
+    {
+        match self.place {
+            Some(Place::Wal { end, .. }) => Some(if self.passed { 0 } else { end }),
+            _ => None,
+        }
     }
 
     /// The answer where the log has no commit.
@@ -117,6 +140,7 @@ impl Following {
         requires none { self.old.found ≡ None }
         requires ready { IsReady self.old }
         ensures ready { IsReady self.new }
+        ensures told { GoesOn (L.told live.old) (L.told live.new) (AnswersAtRest size self.old self.new result) }
         ensures learns { Learns result self.old self.new }
         ensures answer { IsRestAnswer result }
         ensures keeps { Keeps (L.attached live.old) (L.attached live.new) (L.is_there live.old) (L.is_there live.new) }
@@ -176,16 +200,6 @@ impl Following {
     }
 }
 
-/// The end of a place in the log, 0 for one at rest.
-fn place_end(place: Option<Place>) -> u64
-    ensures { result ≡ steps.place_end place }
-{
-    match place {
-        Some(Place::Wal { end, .. }) => end,
-        _ => 0,
-    }
-}
-
 /// `TooLarge` with the number of bytes where a database of so many is too large.
 fn check_bytes(bytes: u64) -> Result<(), FollowFault>
     ensures ok { OnOk result (bytes ≤ database_limit) }
@@ -200,6 +214,10 @@ fn check_bytes(bytes: u64) -> Result<(), FollowFault>
 /// How many pages of this size so many bytes are, rounded up, and at least 1. `TooLarge` with the bytes of the
 /// pages where a database of so many is too large.
 fn page_count(bytes: u64, size: PageSize) -> Result<u32, FollowFault>
+    requires short { bytes < 2 ^ 63 }
+    ensures value { IfOk result (λ pages. (pages ≡ pages_in size bytes) × (pages * size ≤ database_limit)) }
+    ensures large { IfErr result (λ fault. (fault ≡ TooLarge (pages_in size bytes * size))
+        × (database_limit < pages_in size bytes * size)) }
     ensures answer { IsCountAnswer result }
 {
     let pages = bytes.div_ceil(size.get() as u64).max(1);

@@ -7,12 +7,26 @@ use ls_base::{PageSize, Place};
 use std::alloc::Global;
 
 /// A database file's first 100 bytes, and a log of which so many bytes are there. The pages in the file are zeros.
+/// After so many calls each further one fails.
 #[derive(Drop)]
 pub struct SilentLive {
     pub head: [u8; 100],
     pub log: Vec<u8>,
     pub len: usize,
+    pub calls_left: u64,
+    /// How many bytes of the log were given.
+    pub taken: u64,
     pub next: usize,
+}
+
+impl SilentLive {
+    fn spend(&mut self) -> Result<(), LiveFault> {
+        if self.calls_left == 0 {
+            return Err(LiveFault);
+        }
+        self.calls_left -= 1;
+        Ok(())
+    }
 }
 
 impl Live for SilentLive {
@@ -50,11 +64,13 @@ impl Live for SilentLive {
     }
 
     fn db_head(&mut self, into: &mut [u8; 100]) -> Result<usize, LiveFault> {
+        self.spend()?;
         *into = self.head;
         Ok(100)
     }
 
     fn db_size(&mut self) -> Result<u64, LiveFault> {
+        self.spend()?;
         Ok(100)
     }
 
@@ -64,25 +80,30 @@ impl Live for SilentLive {
         _number: u32,
         into: &mut [u8],
     ) -> Result<(), LiveFault> {
+        self.spend()?;
         into.fill(0);
         Ok(())
     }
 
     fn wal_size(&mut self) -> Result<u64, LiveFault> {
+        self.spend()?;
         Ok(self.len as u64)
     }
 
     fn aim(&mut self, at: u64) -> Result<(), LiveFault> {
+        self.spend()?;
         self.next = at as usize;
         Ok(())
     }
 
     fn read(&mut self, into: &mut [u8]) -> Result<usize, LiveFault> {
+        self.spend()?;
         let end = self.len.min(self.log.len());
         let from = self.next.min(end);
         let count = into.len().min(end - from);
         into[..count].copy_from_slice(&self.log[from..from + count]);
         self.next = from + count;
+        self.taken = self.taken.saturating_add(count as u64);
         Ok(count)
     }
 

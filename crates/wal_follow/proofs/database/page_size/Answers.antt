@@ -1,4 +1,4 @@
-use Rattle.std.proofs.Common.{◌≡◌, List, ℕ, ap, subst, sym}
+use Rattle.std.proofs.Common.{List, ℕ, subst}
 use Rattle.db_page.specs.DatabaseHeader.{IsFirstFault}
 use Rattle.wal_follow.proofs.GoesOnLemmas.{goes_map}
 use Rattle.wal_follow.proofs.database.page_size.Goals as goal

@@ -3,7 +3,7 @@ use Rattle.std.proofs.lemmas.List.{append-nil}
 use Rattle.std.proofs.lemmas.Slice.{take-put_mid}
 use borrow.Rule.Slice.PartMut.{put_mid}
 use Rattle.live_gate.specs.LiveCalls.{Reads}
-use Rattle.snapshot_read.proofs.TellLemmas.{goes_then, goes_weaker, keeps_then, err_of}
+use Rattle.snapshot_read.proofs.TellLemmas.{goes_then, goes_weaker, keeps_then}
 use Rattle.snapshot_read.proofs.ReadLemmas.{front_more}
 use Rattle.wal_follow.specs.LogReading.{HasRead}
 use Rattle.wal_follow.proofs.ReadLemmas.{filled_more, awake_now, filled_failed, filled_ended, filled_whole}

@@ -1,4 +1,4 @@
-use Rattle.std.proofs.Common.{length, take, false, ◌-◌, ◌≡◌, ◌<◌, ◌≤◌, ◌+◌}
+use Rattle.std.proofs.Common.{length, take, false, ◌-◌, ◌≡◌, ◌≤◌}
 use Rattle.live_gate.specs.LiveRecord.{GoesOn}
 use Rattle.live_gate.specs.LiveCalls.{Keeps}
 use Rattle.wal_follow.specs.LogReading.{HasRead}

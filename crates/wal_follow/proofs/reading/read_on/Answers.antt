@@ -1,4 +1,4 @@
-use Rattle.std.proofs.Common.{rules, ◌≡◌, ◌∙◌, ◌+◌, ◌-◌, ◌++◌, ◌<◌, ◌≤◌, List, ℕ, Option, length, take, drop, Ok, sym, ap, subst, refl, arith, length-append}
+use Rattle.std.proofs.Common.{rules, ◌≡◌, ◌∙◌, ◌++◌, ◌≤◌, List, ℕ, length, take, drop, Ok, ap, subst, refl, arith}
 use Rattle.std.proofs.lemmas.List.{take-append-le, length-take}
 use Rattle.live_gate.specs.LiveCalls.{Reads}
 use Rattle.snapshot_read.proofs.TellLemmas.{goes_then, goes_weaker, goes_nowhere, keeps_then, err_of}

@@ -1,5 +1,4 @@
-use Rattle.std.proofs.Common.{◌≡◌, ◌∙◌, ℕ, ◌+◌, ◌≤◌, List, [], ◌∷◌, ◌++◌, min, sym, ap, subst, refl, arith, rules}
-use Rattle.ls_base.specs.PageSize.{lock_page}
+use Rattle.std.proofs.Common.{◌≡◌, ◌∙◌, ℕ, ◌+◌, ◌≤◌, List, [], ◌∷◌, ◌++◌, min, sym, ap, subst, arith, rules}
 use Rattle.wal_follow.specs.WantedPages.{AreListed, written}
 use Rattle.wal_follow.proofs.WantedLemmas.{listed_begins, listed_below, listed_skip, listed_more}
 use Rattle.wal_follow.proofs.wanted.wanted_pages.Goals as goal

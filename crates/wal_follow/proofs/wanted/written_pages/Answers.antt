@@ -1,9 +1,7 @@
-use Rattle.std.proofs.Common.{◌≡◌, ◌∙◌, ℕ, List, sym, ap, subst, arith, rules, length, take}
-use Rattle.std.specs.List.{filter, slice_get}
+use Rattle.std.proofs.Common.{◌∙◌, ℕ, List, sym, ap, subst, rules}
+use Rattle.std.specs.List.{slice_get}
 use Rattle.std.specs.List.Sorted.{IsStrictlyIncreasing}
-use Rattle.std.specs.FinMap.{keys}
 use Rattle.ls_base.proofs.MapLemmas.{keys_increase}
-use Rattle.wal_follow.specs.WantedPages.{has_written}
 use Rattle.wal_follow.proofs.WantedLemmas.{kept_below}
 use Rattle.wal_follow.proofs.wanted.written_pages.Goals as goal
 

@@ -1,6 +1,6 @@
-use Rattle.std.proofs.Common.{rules, ◌≡◌, ◌∙◌, ℕ, Ok, Err, refl, sym, ap, subst, take}
+use Rattle.std.proofs.Common.{rules, ℕ, sym, subst}
 use Rattle.live_gate.proofs.StepLemmas.{step_itself}
-use Rattle.snapshot_read.proofs.TellLemmas.{goes_nowhere, err_of}
+use Rattle.snapshot_read.proofs.TellLemmas.{err_of}
 use Rattle.wal_follow.specs.Calls.{target_of, Confirms}
 use Rattle.wal_follow.proofs.GoesOnLemmas.{goes_from, goes_both}
 use Rattle.wal_follow.proofs.ConfirmLemmas.{confirms_fault, confirms_unread, confirms_rest, confirms_read, IsAnswerFor, salts_answered}

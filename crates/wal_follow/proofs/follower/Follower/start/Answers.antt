@@ -1,4 +1,3 @@
-use Rattle.std.proofs.Common.{◌≡◌, refl}
 use Rattle.wal_follow.proofs.KeptLemmas.{none_within}
 use Rattle.wal_follow.proofs.follower.Follower.start.Goals as goal
 

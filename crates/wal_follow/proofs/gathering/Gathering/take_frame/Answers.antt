@@ -1,4 +1,4 @@
-use Rattle.std.proofs.Common.{◌≡◌, ◌∙◌, ◌++◌, take, length, refl, sym, ap, subst, List, ℕ, arith}
+use Rattle.std.proofs.Common.{◌≡◌, ◌++◌, take, length, refl, sym, subst, List, ℕ, arith}
 use Rattle.std.proofs.lemmas.List.{take_all}
 use Rattle.wal_follow.specs.declared.gathering.Gathering.{Gathering}
 use Rattle.wal_follow.specs.Gathering.{HasGathered}
