@@ -5,3 +5,16 @@ pub mod WholeLemmas
 pub mod MomentLemmas
 pub mod RunLemmas
 pub mod DueLemmas
+pub mod DraftLemmas
+pub mod CopyLemmas
+pub mod CopyStepLemmas
+pub mod RunFileLemmas
+pub mod MergeLemmas
+pub mod FaithLemmas
+pub mod NextOfLemmas
+pub mod MergeFilesLemmas
+pub mod FaithRunLemmas
+pub mod FaithMergeLemmas
+pub mod FaithSoundLemmas
+pub mod RunOfLemmas
+pub mod MergeRunLemmas

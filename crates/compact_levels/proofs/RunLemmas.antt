@@ -14,7 +14,7 @@ use Rattle.compact_levels.proofs.MomentLemmas.{one_end}
 use Rattle.compact_levels.proofs.PileLemmas.{first_there, gapless_up, nothing_piled, same_pile}
 use Rattle.compact_levels.proofs.WholeLemmas.{same_beginning}
 
-nine_or_not : (level : ℕ) → IsMergeLevel level → (level ≡ 9) ⊎ (level ≢ 9)
+pub nine_or_not : (level : ℕ) → IsMergeLevel level → (level ≡ 9) ⊎ (level ≢ 9)
 nine_or_not level (inl one) = inr (λ nine. absurd (omega (arith, one, nine)))
 nine_or_not level (inr (inl two)) = inr (λ nine. absurd (omega (arith, two, nine)))
 nine_or_not level (inr (inr (inl three))) = inr (λ nine. absurd (omega (arith, three, nine)))

@@ -2,3 +2,8 @@ pub mod Level
 pub mod Run
 pub mod Due
 pub mod Pile
+pub mod Merged
+pub mod MergeCause
+pub mod Drafting
+pub mod RunFiles
+pub mod MergeLaws

@@ -19,7 +19,7 @@ fn begins_beyond(name: &FileName, level: u8, after: u64) -> bool
 }
 
 /// Whether it is a file of the level that begins one past this transaction.
-fn goes_on_from(name: &FileName, level: u8, end: u64) -> bool
+pub fn goes_on_from(name: &FileName, level: u8, end: u64) -> bool
     ensures { IsTrue result ↔ GoesOnFrom level end name.now }
 {
     name.level == level && name.min.number() - 1 == end
