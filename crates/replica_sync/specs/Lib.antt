@@ -1,0 +1,10 @@
+pub mod Newest
+pub mod Answers
+pub mod LiveSide
+pub mod StoreSide
+pub mod Faith
+pub mod Pages
+pub mod Gathering
+pub mod PageFile
+pub mod Reading
+pub mod Storing
