@@ -1,0 +1,126 @@
+-- The machine after a commit.
+use Rattle.std.proofs.Common.{◌≡◌, ℕ, List, [], ◌∷◌, ◌++◌, length, drop, Some}
+use Rattle.std.proofs.Common.{None}
+use Rattle.std.proofs.Common.{refl, sym, ap, subst, ◌∙◌, arith}
+use Rattle.std.specs.List.{concat}
+use Rattle.std.specs.FinMap.{keys}
+use Rattle.ls_base.specs.History.{History}
+use Rattle.ls_base.specs.State.{State}
+use Rattle.ls_sums.specs.declared.wal_sum.WalSum.{WalSum}
+use Rattle.wal_frames.specs.declared.header.WalHeader.{WalHeader}
+use Rattle.wal_frames.specs.WalFormat.{HasSums}
+use Rattle.wal_frames.specs.ValidPrefix.{valid_frames}
+use Rattle.wal_frames.proofs.AcceptedLemmas.{accepts}
+use Rattle.live_gate.specs.LiveRecord.{Database}
+use Rattle.live_gate.specs.Legal.{last_state}
+use Rattle.live_gate.specs.Moves.{AddsCommit}
+use Rattle.live_gate.proofs.MoveLemmas.{last_state-append, commit_step}
+use Rattle.sim_writer.specs.declared.commit.Made.{Made}
+use Rattle.sim_writer.specs.declared.machine.Machine.{Machine}
+use Rattle.sim_writer.specs.CommitFrames.{PagesByNumber, IsCommit, commit_frames}
+use Rattle.sim_writer.specs.Commits.{Makes, Puts, Commits, front_of}
+use Rattle.sim_writer.specs.Sound.{IsSound, IsCurrent, StandsAt, database_of, tail_of}
+use Rattle.sim_writer.proofs.CommitLemmas.{c, last_then, stands_now, accepted_now, frames_now, whole_now, state_now}
+use Rattle.sim_writer.proofs.CommitLemmas.{fits_now}
+use Rattle.sim_writer.proofs.TwinLemmas.{counted_rose, counted_calm}
+
+same_database : (a b : Database) → a.history ≡ b.history → a.committed ≡ b.committed → a.file ≡ b.file
+    → a.copied ≡ b.copied → a.held ≡ b.held → a.refuses ≡ b.refuses → a.stopped ≡ b.stopped
+    → a.chances ≡ b.chances → a ≡ b
+same_database a b history committed file copied held refuses stopped chances = λ i. record {
+  history = history i;
+  committed = committed i;
+  file = file i;
+  copied = copied i;
+  held = held i;
+  refuses = refuses i;
+  stopped = stopped i;
+  chances = chances i;
+}
+
+module _ (m : Machine) (s : IsSound m) (pages : PagesByNumber) (size : ℕ) (is : IsCommit m.head.size pages size)
+    (made : Made) (mk : Makes m pages size made) (n : Machine) (p : Puts made m n) where
+  -- the database after it
+  abbrev after : Database
+  after = record (database_of m) {
+    history = m.history ++ made.entry ∷ [];
+    committed = m.committed ++ made.bytes;
+    chances = n.chances;
+  }
+
+  after_is : database_of n ≡ after
+  after_is = same_database (database_of n) after p.history p.committed p.file p.copied p.held p.refuses p.stopped refl
+
+  adds_then : AddsCommit (database_of m) after
+  adds_then = record {
+    h = m.head;
+    c = c m s pages size is made mk;
+    e = made.entry;
+    accepted = accepted_now m s pages size is made mk;
+    whole = whole_now m s pages size is made mk;
+    front = record { rest = made.bytes; is = refl };
+    frames = frames_now m s pages size is made mk;
+    history = refl;
+    fits = fits_now m s pages size is made mk;
+    file = refl;
+    copied = refl;
+    held = refl;
+    stopped = refl;
+    chances = p.later;
+    twins = record {
+      rose = counted_rose m.history made.entry m.chances n.chances p.twins;
+      calm = counted_calm m.history made.entry m.chances n.chances p.twins;
+    };
+  }
+
+  adds_now : AddsCommit (database_of m) (database_of n)
+  adds_now = subst (λ (d : Database). AddsCommit (database_of m) d) (sym after_is) adds_then
+
+  bytes_front : made.bytes ≡ front_of m.head m.committed
+      ++ concat (commit_frames m.head m.sums pages size (keys pages))
+  bytes_front = mk.bytes ∙ ap
+      (λ (b : List ℕ). b ++ concat (commit_frames m.head m.sums pages size (keys pages))) mk.is_front.is
+
+  pub commits_done : Commits pages size m n
+  commits_done = record {
+    adds = adds_now;
+    bytes = p.committed ∙ ap (λ (b : List ℕ). m.committed ++ b) bytes_front;
+    tail = p.tail ∙ ap (λ (b : List ℕ). drop (length b) (tail_of m)) bytes_front;
+    head = p.head;
+    refuses = p.refuses;
+  }
+
+  current_then : IsCurrent m.head m.file (valid_frames (m.committed ++ made.bytes))
+      (last_state None (m.history ++ made.entry ∷ []))
+  current_then = record {
+    count = size;
+    is = last_state-append None m.history (made.entry ∷ [])
+        ∙ ap (λ (x : State). Some x) (state_now m s pages size is made mk);
+  }
+
+  some_now : m.committed ++ made.bytes ≡ [] → ⊥
+  some_now none =
+      let long = (accepts (m.committed ++ made.bytes) m.head (accepted_now m s pages size is made mk)).long in
+      absurd (omega (arith, long, ap length none))
+
+  pub sound_done : IsSound n
+  sound_done = record {
+    legal = (commit_step (database_of m) (database_of n) adds_now).legal s.legal;
+    sums = subst HasSums (sym p.head) s.sums;
+    current =
+        subst (λ (x : WalHeader). IsCurrent x n.file (valid_frames n.committed) (last_state None n.history)) (sym
+        p.head)
+        (subst (λ (x : List ℕ). IsCurrent m.head x (valid_frames n.committed) (last_state None n.history)) (sym p.file)
+        (subst (λ (x : List ℕ). IsCurrent m.head m.file (valid_frames x) (last_state None n.history)) (sym p.committed)
+        (subst (λ (x : History). IsCurrent m.head m.file (valid_frames (m.committed ++ made.bytes)) (last_state None x))
+        (sym p.history) current_then)));
+    last = last_then m s pages size is made mk;
+    stands = λ some.
+        subst (λ (x : WalHeader). StandsAt x n.sums (last_then m s pages size is made mk) n.committed) (sym p.head)
+        (subst (λ (x : WalSum). StandsAt m.head x (last_then m s pages size is made mk) n.committed) (sym p.sums)
+        (subst (λ (x : List ℕ). StandsAt m.head made.sums (last_then m s pages size is made mk) x) (sym p.committed)
+        (stands_now m s pages size is made mk)));
+    begun = λ none. absurd (some_now (sym p.committed ∙ none));
+    over = p.over;
+    refuses = p.refuses ∙ s.refuses;
+  }

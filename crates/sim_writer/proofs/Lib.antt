@@ -1,0 +1,14 @@
+pub mod ListLemmas
+pub mod NumberLemmas
+pub mod FrameLemmas
+pub mod StandLemmas
+pub mod PageLemmas
+pub mod PutLemmas
+pub mod TwinLemmas
+pub mod SplitLemmas
+pub mod CommitLemmas
+pub mod DoneLemmas
+pub mod PassingLemmas
+pub mod FreshLemmas
+pub mod LiveLemmas
+pub mod ReadCallLemmas

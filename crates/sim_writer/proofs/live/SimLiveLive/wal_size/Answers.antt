@@ -1,0 +1,18 @@
+use Rattle.std.proofs.Common.{rules}
+use Rattle.std.proofs.Common.{◌∙◌}
+use Rattle.live_gate.proofs.StillLemmas.{goes_on}
+use Rattle.sim_writer.specs.contracts.sim_live.SimLive.{the_view}
+use Rattle.sim_writer.proofs.LiveLemmas as calls
+use Rattle.sim_writer.proofs.live.SimLiveLive.wal_size.Goals as goal
+
+pub returns-then-begin_fails-clause-told : goal.returns-then-begin_fails-clause-told
+returns-then-begin_fails-clause-told c =
+    rw (c.begin_fails.ensures.fails c.if-begin_fails.true).is (goes_on _ _ _ (calls.gives_log_size_not
+    c.args.self.now _))
+
+pub returns-clause-told : goal.returns-clause-told
+returns-clause-told c =
+    let goes = c.begin_fails.ensures.goes c.if-begin_fails.false in
+    let same = c.self.view_is ∙ goes.is in
+    let runs = calls.runs_now same goes in
+    rw (← same) (goes_on _ _ _ (calls.gives_log_size (the_view c.self.inside) _ runs (search rules)))

@@ -1,0 +1,52 @@
+use Rattle.std.proofs.Common.{ℕ, ◌++◌, List, None, false, sym, ap, subst, ◌∙◌}
+use Rattle.ls_base.specs.PageSize.{IsPageSize}
+use Rattle.wal_frames.specs.View.{view_at_rest, rest_place}
+use Rattle.sim_writer.specs.CommitFrames.{SaysSize}
+use Rattle.sim_writer.specs.Sound.{fresh}
+use Rattle.sim_writer.proofs.FreshLemmas.{first_says}
+use Rattle.sim_writer.proofs.sim_live.SimLive.new.Goals as goal
+
+pub fresh-requires : goal.fresh-requires
+fresh-requires c =
+    let size = c.args.size in
+    let file = c.in_ok-file.file in
+    let same = sym c.new-head.ensures.fields.is_size in
+    let bytes = c.as_slice.ensures in
+    let entry = c.in_ok-entry.ensures in
+    let says = first_says size c.args.first.now entry.page_size c.requires.first in
+    record {
+      fresh = record {
+        sums = c.new-head.ensures.sums;
+        page_size = subst IsPageSize same entry.page_size;
+        size = entry.size ∙ same;
+        state = entry.state ∙ ap (λ (b : List ℕ). view_at_rest size b) bytes ∙ ap (λ (n : ℕ). view_at_rest n file) same;
+        place = entry.place ∙ ap (λ (b : List ℕ). rest_place size b) bytes ∙ ap (λ (n : ℕ). rest_place n file) same;
+        says = subst (λ (n : ℕ). SaysSize n file) same (subst (λ (b : List ℕ). SaysSize size b) (sym
+            c.in_ok-file.ensures) says);
+      };
+    }
+
+pub returns : goal.returns
+returns c =
+    let called = c.in_ok-extend.ensures.ok ∙ ap (λ (b : List ℕ). b ++ c.as_bytes.result.now) c.new-called.ensures
+    ∙ c.as_bytes.ensures.value in
+    let machine = c.in_ok-machine.ensures.is
+    ∙ ap (λ (b : List ℕ). fresh c.new-head.result b c.in_ok-entry.entry) c.in_ok-file.ensures in
+    record {
+      begins = record {
+        legal = c.in_ok-machine.ensures.sound.legal;
+        head = c.new-head.result;
+        fields = c.new-head.ensures.fields;
+        entry = c.in_ok-entry.entry;
+        is = λ i. record {
+          name = called i;
+          machine = machine i;
+          asked = c.new.ensures i;
+          attached = None;
+          fails = false;
+          faults = 0;
+          skipped = 0;
+          starved = 0;
+        };
+      };
+    }

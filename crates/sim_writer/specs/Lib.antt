@@ -1,0 +1,10 @@
+pub mod Twins
+pub mod CommitFrames
+pub mod Sound
+pub mod Commits
+pub mod Passing
+pub mod Reading
+pub mod Loose
+pub mod Questions
+pub mod SimState
+pub mod Calls
