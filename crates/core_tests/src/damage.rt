@@ -104,7 +104,13 @@ fn the_first_damaged_file_is_told(rt: HostRuntime) -> Result<(), Fail> {
     let mut target = MemDisk::new(rt.alloc());
     target.put_file("o.litestream-tmp", b"old")?;
     let mut out = MemOut::new(rt.alloc());
-    let outcome = carried_out(rt.alloc(), "restore -o D/o R", &mut store, &mut target, &mut out)?;
+    let outcome = carried_out(
+        rt.alloc(),
+        "restore -o D/o R",
+        &mut store,
+        &mut target,
+        &mut out,
+    )?;
     let sums = LtxFault::BadSum {
         kept: WHOLE.sum ^ 1,
         found: WHOLE.sum,

@@ -62,12 +62,14 @@ module _ (laws : Laws) (files : Files) (history : History) (log : SyncLog) (fait
         let own : IsFaithfulFile history log name.min name.max bytes = faithful.each name bytes is.valid found in
         let its : bytes_under files (path_of name) ≡ bytes
         = ap (λ (file : Option (List ℕ)). unwrap_or file []) found in
-        let begins = begins_with_header bytes own.header own.change own.file.file in
-        (own.header, record {
-          has = subst (λ (b : List ℕ). HasHeader b own.header) (sym its) begins;
-          from_min = own.file.from_min;
-          to_max = own.file.to_max;
-        }))
+        let begins = begins_with_header bytes own.header own.change own.file.file in (
+          own.header,
+          record {
+            has = subst (λ (b : List ℕ). HasHeader b own.header) (sym its) begins;
+            from_min = own.file.from_min;
+            to_max = own.file.to_max;
+          },
+        ))
 
     pub true_headers : (r : Request) → HeadersAreGood files r
     true_headers r names are name damage looked =
