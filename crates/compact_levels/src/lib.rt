@@ -20,8 +20,6 @@ mod files;
 mod last;
 mod law;
 mod merge_fault;
-#[cfg(test)]
-mod merge_tests;
 mod merging;
 mod moment;
 mod pile;

@@ -117,7 +117,7 @@ fn is_before(first: &FileName, other: &FileName) -> bool
 }
 
 /// Whether the names stand in list order.
-pub fn in_order(names: &[FileName]) -> bool
+fn in_order(names: &[FileName]) -> bool
     ensures { IsTrue result → IsListOrdered names.now }
 {
     for at in 1..names.len() {
@@ -129,7 +129,7 @@ pub fn in_order(names: &[FileName]) -> bool
 }
 
 /// The names without their moments.
-pub fn names_in(alloc: Global, dated: &[Dated]) -> Result<Vec<FileName>, AllocError>
+fn names_in(alloc: Global, dated: &[Dated]) -> Result<Vec<FileName>, AllocError>
     ensures { IfOk result (λ names. names.items ≡ names_of dated.now) }
 {
     dated.iter().map(|dated| dated.name).collect(alloc)
