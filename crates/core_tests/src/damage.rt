@@ -1,7 +1,7 @@
 //! Replicas with damaged files.
 
 use crate::carrying::carried_out;
-use crate::files::{LACKING, OUTPUT, PIECE, Replica, WHOLE, bytes_of, disk_of};
+use crate::files::{LACKING, OUTPUT, Replica, WHOLE, bytes_of, disk_of};
 use crash_disk::{Disk, MemDisk, MemOut};
 use litestream_core::Why;
 use ltx_format::LtxFault;
@@ -85,39 +85,5 @@ fn a_missing_page_is_told(rt: HostRuntime) -> Result<(), Fail> {
     assert_eq!(rt; outcome.why, why);
     assert_eq!(rt; outcome.status, 1);
     assert_eq!(rt; target.size(OUTPUT)?, None);
-    Ok(())
-}
-
-/// The first file's own sum is wrong, and of the second only a part is there: the first is told, though it is found
-/// last.
-#[test]
-fn the_first_damaged_file_is_told(rt: HostRuntime) -> Result<(), Fail> {
-    let mut first = bytes_of(rt.alloc(), &WHOLE)?;
-    if let Some(byte) = first.last_mut() {
-        *byte ^= 1;
-    }
-    let mut second = bytes_of(rt.alloc(), &PIECE)?;
-    second.truncate(99);
-    let mut store = MemDisk::new(rt.alloc());
-    store.put_file(WHOLE.path, &first)?;
-    store.put_file(PIECE.path, &second)?;
-    let mut target = MemDisk::new(rt.alloc());
-    target.put_file("o.litestream-tmp", b"old")?;
-    let mut out = MemOut::new(rt.alloc());
-    let outcome = carried_out(
-        rt.alloc(),
-        "restore -o D/o R",
-        &mut store,
-        &mut target,
-        &mut out,
-    )?;
-    let sums = LtxFault::BadSum {
-        kept: WHOLE.sum ^ 1,
-        found: WHOLE.sum,
-    };
-    let why = Why::Damaged(name_of(WHOLE.path)?, Damage::File(sums));
-    assert_eq!(rt; outcome.why, why);
-    assert_eq!(rt; target.size(OUTPUT)?, None);
-    assert_eq!(rt; target.size("o.litestream-tmp")?, None);
     Ok(())
 }
