@@ -112,97 +112,11 @@ fn only_a_missing_file_is_absent(rt: HostRuntime) -> Result<(), Fail> {
     Ok(())
 }
 
-/// The header of a log with pages of 512 bytes and salts 1 and 2, and what stands before the page of each of its two
-/// frames: page 1, and page 2 with a commit of two pages. The sums come from a script in Python that follows the file
-/// format.
-const LOG_HEAD: [u8; 32] = [
-    0x37, 0x7f, 0x06, 0x83, 0, 0x2d, 0xe2, 0x18, 0, 0, 2, 0, 0, 0, 0, 0, 0, 0, 0, 1, 0, 0, 0, 2,
-    0x16, 0x04, 0xca, 0xd8, 0xbc, 0xdd, 0xa4, 0x93,
-];
-
-const FRONTS: [[u8; 24]; 2] = [
-    [
-        0, 0, 0, 1, 0, 0, 0, 0, 0, 0, 0, 1, 0, 0, 0, 2, 0x47, 0x09, 0x9a, 0x39, 0x8c, 0xfa, 0xb4,
-        0xd4,
-    ],
-    [
-        0, 0, 0, 2, 0, 0, 0, 2, 0, 0, 0, 1, 0, 0, 0, 2, 0xdf, 0xdb, 0xb9, 0xce, 0xd7, 0xa6, 0x1a,
-        0xc1,
-    ],
-];
-
-/// Page 1 of a database in WAL mode, filled with 0x11 behind its front, and page 2, filled with 0x22.
-fn pages() -> [u8; 1024] {
-    let mut pages = [0x11; 1024];
-    pages[..100].fill(0);
-    pages[..20].copy_from_slice(b"SQLite format 3\0\x02\x00\x02\x02");
-    pages[512..].fill(0x22);
-    pages
-}
-
-/// The log of both.
-fn log() -> [u8; 1104] {
-    let pages = pages();
-    let mut log = [0; 1104];
-    log[..32].copy_from_slice(&LOG_HEAD);
-    log[32..56].copy_from_slice(&FRONTS[0]);
-    log[56..568].copy_from_slice(&pages[..512]);
-    log[568..592].copy_from_slice(&FRONTS[1]);
-    log[592..].copy_from_slice(&pages[512..]);
-    log
-}
-
-/// The place behind its commit.
-const PLACE: Place = Place::Wal {
-    salt1: 1,
-    salt2: 2,
-    end: 1104,
-    s0: 0xdfdb_b9ce,
-    s1: 0xd7a6_1ac1,
-};
-
 #[test]
-fn a_pass_copies_the_log_of_a_database_at_rest(rt: HostRuntime) -> Result<(), Fail> {
-    let path = "file_live_pass";
-    folder(
-        rt,
-        path,
-        &[
-            ("file_live_pass/db", &[0; 512]),
-            ("file_live_pass/db-wal", &log()),
-        ],
-    )?;
+fn a_pass_is_refused_where_others_may_have_the_database_open(rt: HostRuntime) -> Result<(), Fail> {
     let mut live = FileLive::new(rt);
-    live.attach(rt.alloc(), "file_live_pass/db", false)?;
-    live.enter()?;
-    live.advance(1104)?;
-    assert_eq!(rt; live.pass(rt.alloc(), &PLACE)?, Pass::Kept);
-    live.attach(rt.alloc(), "file_live_pass/db", true)?;
-    live.enter()?;
-    assert_eq!(rt; (live.wal_size()?, live.db_size()?), (1104, 512));
-    assert_eq!(rt; live.pass(rt.alloc(), &PLACE)?, Pass::Kept);
-    live.advance(1104)?;
-    assert_eq!(rt; live.pass(rt.alloc(), &PLACE)?, Pass::Passed);
-    assert_eq!(rt; (live.wal_size()?, live.db_size()?), (0, 1024));
-    assert_eq!(rt;
-        gate(rt, "file_live_pass/db-litestream-gate")?,
-        Some(*b"0000000000000000\n")
-    );
-    let mut bytes = [0; 1024];
-    File::open(&rt, "file_live_pass/db")?.read_exact(&mut bytes)?;
-    assert_eq!(rt; bytes, pages());
-    // a log that goes on behind the place
-    File::create(&rt, "file_live_pass/db-wal")?.write_all(&log())?;
-    live.advance(568)?;
-    let before = Place::Wal {
-        salt1: 1,
-        salt2: 2,
-        end: 568,
-        s0: 0x4709_9a39,
-        s1: 0x8cfa_b4d4,
-    };
-    assert_eq!(rt; live.pass(rt.alloc(), &before)?, Pass::Kept);
-    assert_eq!(rt; (live.wal_size()?, live.faults()), (1104, 0));
-    fs::remove_dir_all(&rt, path)?;
+    let place = Place::Rest { sum: 1 << 63 };
+    assert_eq!(rt; live.pass(rt.alloc(), &place)?, Pass::Kept);
+    assert_eq!(rt; live.faults(), 0);
     Ok(())
 }
