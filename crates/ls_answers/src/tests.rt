@@ -11,7 +11,7 @@ use std::alloc::Global;
 use std::process::Abort;
 use std::test::*;
 
-const PLAIN: [(Why, &str); 22] = [
+const PLAIN: [(Why, &str); 23] = [
     (Why::Done, ""),
     (Why::SkippedOutput, ""),
     (Why::SkippedReplica, ""),
