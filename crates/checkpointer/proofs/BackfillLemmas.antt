@@ -23,12 +23,13 @@ use Rattle.checkpointer.specs.PairState.{bytes_at, AreNamed}
 use Rattle.checkpointer.proofs.FoundPages.{front_frames, page_found, page_absent, has_last, size_is, not_left}
 use Rattle.checkpointer.proofs.KeepLemmas.{entry, log, file_now, keeps_run, IsFree, run_pages, log_is}
 use Rattle.checkpointer.proofs.PagesLemmas.{outside, page_ends, page_resized, pages_in, IsOne, page_unwritten}
-use Rattle.checkpointer.proofs.PagesLemmas.{page_written, length-pages}
+use Rattle.checkpointer.proofs.PagesLemmas.{page_written, page_grown, length-pages}
 use Rattle.checkpointer.proofs.RunLemmas.{Run, run_cuts, run_grows}
 use Rattle.checkpointer.proofs.ViewOfPair.{IsKept}
 use Rattle.checkpointer.proofs.WritesLemmas.{each_weaker}
 
-module _ (db wal : List ℕ) (apart : db ≢ wal) (x : List Event) (named : AreNamed x db wal) (upto : ℕ) (h : WalHeader) (pages : BTreeMap ℕ ℕ) (mark : Mark) (is_last : Bool) where
+module _ (db wal : List ℕ) (apart : db ≢ wal) (x : List Event) (named : AreNamed x db wal) (upto : ℕ) (h : WalHeader)
+    (pages : BTreeMap ℕ ℕ) (mark : Mark) (is_last : Bool) where
   abbrev pub d : FileState
   d = (entry db wal apart x named).d
 
@@ -51,31 +52,38 @@ module _ (db wal : List ℕ) (apart : db ≢ wal) (x : List Event) (named : AreN
         → IsFree db wal apart x named last.0 last.1 h.size w
     part_free w is = record {
       free = λ place kept.
-          let from : (kept.p - 1) * h.size ≤ place = subst (λ (size : ℕ). (kept.p - 1) * size ≤ place) (size_is the_log upto h pages mark is_last found) kept.from in
-          let before : place < kept.p * h.size = subst (λ (size : ℕ). place < kept.p * size) (size_is the_log upto h pages mark is_last found) kept.before in
-          let other = not_left the_log upto h pages mark is_last found last.0 last.1 kept.p w.number is.at kept.page is.found in
+          let from : (kept.p - 1) * h.size ≤ place = subst (λ (size : ℕ). (kept.p - 1) * size ≤ place)
+          (size_is the_log upto h pages mark is_last found) kept.from in
+          let before : place < kept.p * h.size = subst (λ (size : ℕ). place < kept.p * size)
+          (size_is the_log upto h pages mark is_last found) kept.before in
+          let other = not_left the_log upto h pages mark is_last found last.0 last.1 kept.p w.number is.at kept.page
+          is.found in
           let ends = page_ends h.size kept.p kept.page.from in
           let k : (kept.p - 1) * h.size + (place - (kept.p - 1) * h.size) ≡ place = omega (arith, from) in
           subst (λ (n : ℕ). (n < (w.number - 1) * h.size) ⊎ ((w.number - 1) * h.size + length w.bytes ≤ n)) k
-          (outside h.size w.number kept.p (place - (kept.p - 1) * h.size) (length w.bytes) is.copied.from kept.page.from other (omega (arith, from, before, ends)) is.within);
+          (outside h.size w.number kept.p (place - (kept.p - 1) * h.size) (length w.bytes) is.copied.from
+          kept.page.from other (omega (arith, from, before, ends)) is.within);
     }
 
     pub run_parts : (writes : List Written) → EachIs (IsPartOfPage h.size mark.commit pages) writes
         → RunTo (after_writes db h.size writes started) (pages_in h.size writes d)
     run_parts writes each =
         run_pages db wal apart x named last.0 last.1 h.size writes
-        (each_weaker (IsPartOfPage h.size mark.commit pages) (IsFree db wal apart x named last.0 last.1 h.size) writes part_free each)
+        (each_weaker (IsPartOfPage h.size mark.commit pages) (IsFree db wal apart x named last.0 last.1 h.size) writes
+        part_free each)
 
     whole_parts : (log : List ℕ) (writes : List Written) → EachIs (IsPageOf h.size mark.commit pages log) writes
         → EachIs (IsPartOfPage h.size mark.commit pages) writes
-    whole_parts log writes each = each_weaker (IsPageOf h.size mark.commit pages log) (IsPartOfPage h.size mark.commit pages) writes
+    whole_parts log writes each = each_weaker (IsPageOf h.size mark.commit pages log)
+        (IsPartOfPage h.size mark.commit pages) writes
         (λ w is. record { copied = is.copied; at = is.at; found = is.found; within = omega (arith, is.long) }) each
 
     pub keeps_parts : (now : List Event) → MayCopyPages db h.size mark.commit pages started now
         → KeepsStates db wal x now
     keeps_parts now c =
         subst (λ (es : List Event). KeepsStates db wal x es) (sym c.is)
-        (keeps_run db wal apart x named last.0 last.1 (after_writes db h.size c.writes started) (pages_in h.size c.writes d) (run_parts c.writes c.each))
+        (keeps_run db wal apart x named last.0 last.1 (after_writes db h.size c.writes started)
+        (pages_in h.size c.writes d) (run_parts c.writes c.each))
 
     -- ---- the length
 
@@ -86,16 +94,19 @@ module _ (db wal : List ℕ) (apart : db ≢ wal) (x : List Event) (named : AreN
     pub run_set : (now : List Event) (file : FileState) → RunTo now file
         → (is_last ≡ true) ⊎ (length file.bytes ≤ bytes) → RunTo (Cut db bytes ∷ now) (resized bytes file)
     run_set now file r (inl is) =
-        run_cuts (IsKept the_log last.0) db wal the_log d x (entry db wal apart x named).w (entry db wal apart x named).pair (log_is db wal apart x named) apart now file bytes r
+        run_cuts (IsKept the_log last.0) db wal the_log d x (entry db wal apart x named).w
+        (entry db wal apart x named).pair (log_is db wal apart x named) apart now file bytes r
         (λ place kept.
         let both : Some last.0 ≡ Some mark = sym last.1 ∙ found.last is in
         let same : last.0 ≡ mark = cc in
         let fewer : kept.p ≤ mark.commit = subst (λ (m : Mark). kept.p ≤ m.commit) same kept.page.upto in
         let fits : kept.p * h.size ≤ mark.commit * h.size = mul-le-mul_right h.size fewer in
-        let before : place < kept.p * h.size = subst (λ (size : ℕ). place < kept.p * size) (size_is the_log upto h pages mark is_last found) kept.before in
+        let before : place < kept.p * h.size = subst (λ (size : ℕ). place < kept.p * size)
+        (size_is the_log upto h pages mark is_last found) kept.before in
         omega (arith, fits, before))
     run_set now file r (inr short) =
-        run_grows (IsKept the_log last.0) db wal the_log d x (entry db wal apart x named).w (entry db wal apart x named).pair (log_is db wal apart x named) apart now file bytes r short
+        run_grows (IsKept the_log last.0) db wal the_log d x (entry db wal apart x named).w
+        (entry db wal apart x named).pair (log_is db wal apart x named) apart now file bytes r short
 
     module _ (copied : List Event) (c : CopiesPages db wal h.size mark.commit pages started copied) where
       abbrev pub file : FileState
@@ -116,15 +127,18 @@ module _ (db wal : List ℕ) (apart : db ≢ wal) (x : List Event) (named : AreN
       allowed (inr short) = inr (omega (arith, short, ap (λ (xs : List ℕ). length xs) file_bytes))
 
       pub keeps_sized : (now : List Event) → MaySetLength db bytes is_last copied now → KeepsStates db wal x now
-      keeps_sized now (inl same) = subst (λ (es : List Event). KeepsStates db wal x es) (sym same) (keeps_run db wal apart x named last.0 last.1 copied file run_copied)
+      keeps_sized now (inl same) = subst (λ (es : List Event). KeepsStates db wal x es) (sym same)
+          (keeps_run db wal apart x named last.0 last.1 copied file run_copied)
       keeps_sized now (inr cut) =
           subst (λ (es : List Event). KeepsStates db wal x es) (sym cut.0)
-          (keeps_run db wal apart x named last.0 last.1 (Cut db bytes ∷ copied) (resized bytes file) (run_set copied file run_copied (allowed cut.1)))
+          (keeps_run db wal apart x named last.0 last.1 (Cut db bytes ∷ copied) (resized bytes file)
+          (run_set copied file run_copied (allowed cut.1)))
 
       -- ---- the pages of the file then
 
       ones : EachIs (IsOne h.size mark.commit) c.writes
-      ones = each_weaker (IsPartOfPage h.size mark.commit pages) (IsOne h.size mark.commit) c.writes (λ w is. record { from = is.copied.from; upto = is.copied.upto; within = is.within }) parts
+      ones = each_weaker (IsPartOfPage h.size mark.commit pages) (IsOne h.size mark.commit) c.writes
+          (λ w is. record { from = is.copied.from; upto = is.copied.upto; within = is.within }) parts
 
       abbrev page_in_front : ℕ → Option (List ℕ)
       page_in_front p = frames_page p (front_frames the_log upto h pages mark is_last found)
@@ -141,7 +155,8 @@ module _ (db wal : List ℕ) (apart : db ≢ wal) (x : List Event) (named : AreN
           → EachIs (λ w. w.number ≡ p → w.bytes ≡ take h.size (drop at the_log)) c.writes
       unfolding files_after
       each_page p at is within =
-          each_weaker (IsPageOf h.size mark.commit pages (bytes_at started wal)) (λ w. w.number ≡ p → w.bytes ≡ take h.size (drop at the_log)) c.writes
+          each_weaker (IsPageOf h.size mark.commit pages (bytes_at started wal))
+          (λ w. w.number ≡ p → w.bytes ≡ take h.size (drop at the_log)) c.writes
           (λ w page same.
           let both : Some page.at ≡ Some at = sym page.found ∙ ap (get nat_cmp pages) same ∙ is in
           let here : page.at ≡ at = cc in
@@ -152,17 +167,20 @@ module _ (db wal : List ℕ) (apart : db ≢ wal) (x : List Event) (named : AreN
           → file_page h.size file.bytes p ≡ unwrap_or (page_in_front p) (file_page h.size d.bytes p)
       copied_page p is None none =
           page_unwritten h.size mark.commit d p c.writes is.from ones (none_written p c.writes parts none)
-          ∙ sym (ap (λ (page : Option (List ℕ)). unwrap_or page (file_page h.size d.bytes p)) (page_absent the_log upto h pages mark is_last found p none))
+          ∙ sym (ap (λ (page : Option (List ℕ)). unwrap_or page (file_page h.size d.bytes p))
+          (page_absent the_log upto h pages mark is_last found p none))
       copied_page p is (Some at) some =
           let page = page_found the_log upto h pages mark is_last found p at some in
-          page_written h.size mark.commit d p (take h.size (drop at the_log)) c.writes is.from ones (each_page p at some page.1)
+          page_written h.size mark.commit d p (take h.size (drop at the_log)) c.writes is.from ones
+          (each_page p at some page.1)
           (length-take-le h.size (drop at the_log) (omega (arith, page.1, length-drop at the_log))) (c.all p at some is)
           ∙ sym (ap (λ (found_page : Option (List ℕ)). unwrap_or found_page (file_page h.size d.bytes p)) page.0)
 
       pub sized_page : (p : ℕ) → IsCopiedNumber h.size mark.commit p
           → file_page h.size (with_length bytes file.bytes) p ≡ unwrap_or (page_in_front p) (file_page h.size d.bytes p)
       sized_page p is =
-          page_resized h.size bytes p file.bytes is.from (mul-le-mul_right h.size is.upto) ∙ copied_page p is (get nat_cmp pages p) refl
+          page_resized h.size bytes p file.bytes is.from (mul-le-mul_right h.size is.upto)
+          ∙ copied_page p is (get nat_cmp pages p) refl
 
       pub lengths : (length d.bytes ≤ length file.bytes) × (length file.bytes ≤ max (length d.bytes) bytes)
       lengths = length-pages h.size mark.commit d c.writes ones
@@ -176,10 +194,28 @@ module _ (db wal : List ℕ) (apart : db ≢ wal) (x : List Event) (named : AreN
       none_locked (w ∷ writes) each (inl same) = each.0.copied.unlocked same
       none_locked (w ∷ writes) each (inr some) = none_locked writes each.1 some
 
+      none_behind : (p : ℕ) → mark.commit < p → (writes : List Written)
+          → EachIs (IsPartOfPage h.size mark.commit pages) writes → SomeOf (λ w. w.number ≡ p) writes → ⊥
+      none_behind p later [] each some = some
+      none_behind p later (w ∷ writes) each (inl same) = absurd (omega (arith, each.0.copied.upto, same, later))
+      none_behind p later (w ∷ writes) each (inr some) = none_behind p later writes each.1 some
+
+      -- so is a page behind the mark's size
+      pub page_behind : (p : ℕ) → mark.commit < p → file_page h.size file.bytes p ≡ file_page h.size d.bytes p
+      page_behind p later = page_unwritten h.size mark.commit d p c.writes (omega (arith, later)) ones
+          (none_behind p later c.writes parts)
+
+      pub grown_behind : length file.bytes ≤ bytes → (p : ℕ) → mark.commit < p
+          → file_page h.size (with_length bytes file.bytes) p ≡ file_page h.size d.bytes p
+      grown_behind short p later = page_grown h.size bytes p file.bytes short ∙ page_behind p later
+
       -- the lock page is as it was
       pub locked_page : file_page h.size file.bytes (lock_page h.size) ≡ file_page h.size d.bytes (lock_page h.size)
-      locked_page = page_unwritten h.size mark.commit d (lock_page h.size) c.writes (omega arith) ones (none_locked c.writes parts)
+      locked_page = page_unwritten h.size mark.commit d (lock_page h.size) c.writes (omega arith) ones
+          (none_locked c.writes parts)
 
       pub sized_locked : lock_page h.size ≤ mark.commit
-          → file_page h.size (with_length bytes file.bytes) (lock_page h.size) ≡ file_page h.size d.bytes (lock_page h.size)
-      sized_locked fewer = page_resized h.size bytes (lock_page h.size) file.bytes (omega arith) (mul-le-mul_right h.size fewer) ∙ locked_page
+          → file_page h.size (with_length bytes file.bytes) (lock_page h.size) ≡ file_page h.size d.bytes
+          (lock_page h.size)
+      sized_locked fewer = page_resized h.size bytes (lock_page h.size) file.bytes (omega arith)
+          (mul-le-mul_right h.size fewer) ∙ locked_page

@@ -15,7 +15,8 @@ cause_after before mid now result earlier cause = record {
   rose = λ fault is. rose_after before mid now earlier (cause.rose fault is);
 }
 
-pub err_cause : {T U : Type 0} (before now : ℕ) (fault : BackfillFault) → BackfillHasCause {T = T} before now (Err fault) → BackfillHasCause {T = U} before now (Err fault)
+pub err_cause : {T U : Type 0} (before now : ℕ) (fault : BackfillFault)
+    → BackfillHasCause {T = T} before now (Err fault) → BackfillHasCause {T = U} before now (Err fault)
 err_cause before now fault cause = record {
   later = cause.later;
   rose = λ f is. let same : fault ≡ Disk f = cc in cause.rose f (ap (λ (e : BackfillFault). Err e) same);

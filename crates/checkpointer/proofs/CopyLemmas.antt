@@ -13,9 +13,11 @@ use Rattle.checkpointer.specs.Copying.{WritesPage, MayWritePage, SetsLength, May
 -- a page that was read whole
 pub page_is : (file old new : List ℕ) (at n : ℕ) → new ≡ take n (drop at file) ++ drop n old → length old ≤ n
     → new ≡ take n (drop at file)
-page_is file old new at n is all = is ∙ ap (λ (xs : List ℕ). take n (drop at file) ++ xs) (drop_all n old all) ∙ append-nil (take n (drop at file))
+page_is file old new at n is all = is ∙ ap (λ (xs : List ℕ). take n (drop at file) ++ xs) (drop_all n old all)
+    ∙ append-nil (take n (drop at file))
 
-module _ (old mid new : Told) (db wal page : List ℕ) (size number at start : ℕ) (unchanged : mid ≡ old) (begins : start ≡ (number - 1) * size) (long : length page ≡ size) where
+module _ (old mid new : Told) (db wal page : List ℕ) (size number at start : ℕ) (unchanged : mid ≡ old)
+    (begins : start ≡ (number - 1) * size) (long : length page ≡ size) where
   wrote : (x : List Event) → Wrote db start page ∷ x ≡ Wrote db ((number - 1) * size) page ∷ x
   wrote x = ap (λ (n : ℕ). Wrote db n page ∷ x) begins
 
@@ -33,7 +35,11 @@ module _ (old mid new : Told) (db wal page : List ℕ) (size number at start : �
   }
 
   pub page_maybe : GainsBytesOrNot mid new db start (length page) → GoesOn old new (MayWritePage db size number)
-  page_maybe (inl same) = record { told = λ x told. (x, same ∙ unchanged ∙ told, inl refl, grown_same x); silent = λ silent. same ∙ unchanged ∙ silent }
+  page_maybe (inl same) = record {
+    told = λ x told. (x, same ∙ unchanged ∙ told, inl refl, grown_same x);
+    silent = λ silent. same ∙ unchanged
+        ∙ silent;
+  }
   page_maybe (inr some) = record {
     told = λ x told. (
       Wrote db start some.0 ∷ x,
@@ -45,19 +51,36 @@ module _ (old mid new : Told) (db wal page : List ℕ) (size number at start : �
   }
 
 -- the length set
-module _ (old mid new : Told) (db : List ℕ) (bytes now : ℕ) (may : Bool) (unchanged : mid ≡ old) (is : IfTold old (λ x. now ≡ length (bytes_at x db))) (allowed : (may ≡ true) ⊎ (now ≤ bytes)) where
+module _ (old mid new : Told) (db : List ℕ) (bytes now : ℕ) (may : Bool) (unchanged : mid ≡ old)
+    (is : IfTold old (λ x. now ≡ length (bytes_at x db))) (allowed : (may ≡ true) ⊎ (now ≤ bytes)) where
   longer : (x : List Event) → old ≡ Some x → (may ≡ true) ⊎ (length (bytes_at x db) ≤ bytes)
   longer x told = elim allowed [ inl may ↦ inl may | inr less ↦ inr (omega (arith, less, is x told)) ]
 
   pub length_set : new ≡ gains mid (Cut db bytes) → GoesOn old new (SetsLength db bytes may)
   length_set gained = record {
-    told = λ x told. (Cut db bytes ∷ x, gained ∙ ap (λ (t : Told). gains t (Cut db bytes)) (unchanged ∙ told), inl (refl, longer x told), grown_by (Cut db bytes) x);
+    told = λ x told. (
+      Cut db bytes ∷ x,
+      gained ∙ ap (λ (t : Told). gains t (Cut db bytes)) (unchanged ∙ told),
+      inl
+          (refl, longer x told),
+      grown_by (Cut db bytes) x,
+    );
     silent = λ silent. gained ∙ ap (λ (t : Told). gains t (Cut db bytes)) (unchanged ∙ silent);
   }
 
   pub length_maybe : GainsOrNot mid new (Cut db bytes) → GoesOn old new (MaySetLength db bytes may)
-  length_maybe (inl same) = record { told = λ x told. (x, same ∙ unchanged ∙ told, inl refl, grown_same x); silent = λ silent. same ∙ unchanged ∙ silent }
+  length_maybe (inl same) = record {
+    told = λ x told. (x, same ∙ unchanged ∙ told, inl refl, grown_same x);
+    silent = λ silent. same ∙ unchanged
+        ∙ silent;
+  }
   length_maybe (inr gained) = record {
-    told = λ x told. (Cut db bytes ∷ x, gained ∙ ap (λ (t : Told). gains t (Cut db bytes)) (unchanged ∙ told), inr (refl, longer x told), grown_by (Cut db bytes) x);
+    told = λ x told. (
+      Cut db bytes ∷ x,
+      gained ∙ ap (λ (t : Told). gains t (Cut db bytes)) (unchanged ∙ told),
+      inr
+          (refl, longer x told),
+      grown_by (Cut db bytes) x,
+    );
     silent = λ silent. gained ∙ ap (λ (t : Told). gains t (Cut db bytes)) (unchanged ∙ silent);
   }

@@ -27,7 +27,8 @@ pub get-padded : (old : List ℕ) (n place : ℕ) → get_or (old ++ replicate n
 get-padded old n place =
     elim (cases_lt place (length old)) [
       | inl below ↦ get_or_append_left old (replicate n 0) 0 place below
-      | inr past ↦ get_or-append_right old (replicate n 0) (length old) place 0 refl past ∙ zeros n (place - length old) ∙ sym (get_or_past old place 0 past)
+      | inr past ↦ get_or-append_right old (replicate n 0) (length old) place 0 refl past
+          ∙ zeros n (place - length old) ∙ sym (get_or_past old place 0 past)
     ]
 
 module _ (at : ℕ) (bytes old : List ℕ) where
@@ -36,7 +37,12 @@ module _ (at : ℕ) (bytes old : List ℕ) where
 
   length-front : length (take at longer) ≡ at
   unfolding longer
-  length-front = omega (arith, length-take at longer, length-append old (replicate (at - length old) 0), length-replicate {A = ℕ} (at - length old) 0)
+  length-front = omega (
+    arith,
+    length-take at longer,
+    length-append old (replicate (at - length old) 0),
+    length-replicate {A = ℕ} (at - length old) 0,
+  )
 
   length-head : length (take at longer ++ bytes) ≡ at + length bytes
   length-head = omega (arith, length-append (take at longer) bytes, length-front)
@@ -46,35 +52,53 @@ module _ (at : ℕ) (bytes old : List ℕ) where
       → get_or (with_bytes_at at bytes old) place 0 ≡ get_or old place 0
   unfolding longer
   get-written place (inl below) =
-      get_or_append_left (take at longer ++ bytes) (drop (at + length bytes) old) 0 place (omega (arith, below, length-head))
+      get_or_append_left (take at longer ++ bytes) (drop (at + length bytes) old) 0 place
+      (omega (arith, below, length-head))
       ∙ get_or_append_left (take at longer) bytes 0 place (omega (arith, below, length-front))
       ∙ get_or-take at longer place 0 below ∙ get-padded old (at - length old) place
   get-written place (inr past) =
-      get_or-append_right (take at longer ++ bytes) (drop (at + length bytes) old) (at + length bytes) place 0 length-head past
-      ∙ get_or-drop (at + length bytes) old (place - (at + length bytes)) 0 ∙ ap (λ (k : ℕ). get_or old k 0) (omega (arith, past))
+      get_or-append_right (take at longer ++ bytes) (drop (at + length bytes) old) (at + length bytes) place 0
+      length-head past
+      ∙ get_or-drop (at + length bytes) old (place - (at + length bytes)) 0
+      ∙ ap (λ (k : ℕ). get_or old k 0) (omega (arith, past))
 
   -- and puts its bytes inside of it
   pub get-written_here : (k : ℕ) → k < length bytes → get_or (with_bytes_at at bytes old) (at + k) 0 ≡ get_or bytes k 0
   unfolding longer
   get-written_here k below =
-      get_or_append_left (take at longer ++ bytes) (drop (at + length bytes) old) 0 (at + k) (omega (arith, below, length-head))
-      ∙ get_or-append_right (take at longer) bytes at (at + k) 0 length-front (omega arith) ∙ ap (λ (j : ℕ). get_or bytes j 0) (omega arith)
+      get_or_append_left (take at longer ++ bytes) (drop (at + length bytes) old) 0 (at + k)
+      (omega (arith, below, length-head))
+      ∙ get_or-append_right (take at longer) bytes at (at + k) 0 length-front (omega arith)
+      ∙ ap (λ (j : ℕ). get_or bytes j 0) (omega arith)
 
   pub length-written : length (with_bytes_at at bytes old) ≡ at + length bytes + (length old - (at + length bytes))
   unfolding longer
-  length-written = omega (arith, length-append (take at longer ++ bytes) (drop (at + length bytes) old), length-head, length-drop (at + length bytes) old)
+  length-written = omega (
+    arith,
+    length-append (take at longer ++ bytes) (drop (at + length bytes) old),
+    length-head,
+    length-drop (at + length bytes) old,
+  )
 
 pub get-resized : (size : ℕ) (old : List ℕ) (place : ℕ) → place < size
     → get_or (with_length size old) place 0 ≡ get_or old place 0
-get-resized size old place within = get-padded (take size old) (size - length old) place ∙ get_or-take size old place 0 within
+get-resized size old place within = get-padded (take size old) (size - length old) place
+    ∙ get_or-take size old place 0 within
 
 -- a file that grows changes no place
 pub get-grown : (size : ℕ) (old : List ℕ) (place : ℕ) → length old ≤ size
     → get_or (with_length size old) place 0 ≡ get_or old place 0
-get-grown size old place short = get-padded (take size old) (size - length old) place ∙ ap (λ (xs : List ℕ). get_or xs place 0) (take_all size old short)
+get-grown size old place short = get-padded (take size old) (size - length old) place
+    ∙ ap (λ (xs : List ℕ). get_or xs place 0) (take_all size old short)
 
 pub length-resized : (size : ℕ) (old : List ℕ) → length (with_length size old) ≡ size
-length-resized size old = omega (arith, length-append (take size old) (replicate (size - length old) 0), length-take size old, length-replicate {A = ℕ} (size - length old) 0)
+length-resized size old = omega (
+  arith,
+  length-append (take size old) (replicate (size - length old) 0),
+  length-take size old,
+  length-replicate
+      {A = ℕ} (size - length old) 0,
+)
 
 -- ---- images
 
@@ -104,7 +128,8 @@ decide place (range ∷ ranges) =
       | inr none ↦
           elim (cases_lt place range.start) [
             | inl before ↦ inr (not_before place range ranges before none)
-            | inr from ↦ elim (cases_lt place range.end) [ inl inside ↦ inl (inl (from, inside)) | inr past ↦ inr (not_past place range ranges past none) ]
+            | inr from ↦ elim (cases_lt place range.end)
+                [ inl inside ↦ inl (inl (from, inside)) | inr past ↦ inr (not_past place range ranges past none) ]
           ]
     ]
 
@@ -135,7 +160,8 @@ pub record IsLikeBefore (Kept : ℕ → Type 0) (old : FileState) (bytes : List 
   pub image : IsFileImage old before
   pub agree : AgreeAt Kept before bytes
 
-module _ (Kept : ℕ → Type 0) (old new : FileState) (c : ChangedApart Kept old new) (bytes : List ℕ) (image : IsFileImage new bytes) where
+module _ (Kept : ℕ → Type 0) (old new : FileState) (c : ChangedApart Kept old new) (bytes : List ℕ)
+    (image : IsFileImage new bytes) where
   within : (place : ℕ) → Kept place → place < length bytes
   within place kept = c.lengths (length bytes) image.had_length place kept
 
@@ -143,11 +169,13 @@ module _ (Kept : ℕ → Type 0) (old new : FileState) (c : ChangedApart Kept ol
       → get_or old.synced place 0 ≡ get_or bytes place 0
   synced_byte place kept free below =
       let count : length new.synced ≡ length old.synced = ap (λ (xs : List ℕ). length xs) c.synced in
-      sym (image.kept place (within place kept) (omega (arith, below, count)) (λ inside. free (c.ranges place kept inside)) ∙ ap (λ (xs : List ℕ). get_or xs place 0) c.synced)
+      sym (image.kept place (within place kept) (omega (arith, below, count))
+      (λ inside. free (c.ranges place kept inside)) ∙ ap (λ (xs : List ℕ). get_or xs place 0) c.synced)
 
   byte_at : ℕ → ℕ
   byte_at place =
-      pick (SomeOf (IsInside place) old.ranges) place (length old.synced) (get_or old.synced place 0) (get_or bytes place 0) (decide place old.ranges) (cases_lt place (length old.synced))
+      pick (SomeOf (IsInside place) old.ranges) place (length old.synced) (get_or old.synced place 0)
+      (get_or bytes place 0) (decide place old.ranges) (cases_lt place (length old.synced))
 
   abbrev was : List ℕ
   was = map byte_at (range_with_len 0 (length old.bytes))
@@ -167,11 +195,13 @@ module _ (Kept : ℕ → Type 0) (old new : FileState) (c : ChangedApart Kept ol
       had_length = subst (λ (n : ℕ). SomeOf (λ size. n ≡ size) old.lengths) (sym length-was) had;
       kept = λ place below synced free.
           get-was place (omega (arith, below, length-was))
-          ∙ pick_synced (SomeOf (IsInside place) old.ranges) place (length old.synced) (get_or old.synced place 0) (get_or bytes place 0) (decide place old.ranges) (cases_lt place (length old.synced)) free synced;
+          ∙ pick_synced (SomeOf (IsInside place) old.ranges) place (length old.synced) (get_or old.synced place 0)
+          (get_or bytes place 0) (decide place old.ranges) (cases_lt place (length old.synced)) free synced;
     };
     agree = λ place kept.
         get-was place (long place kept)
-        ∙ pick_agrees (SomeOf (IsInside place) old.ranges) place (length old.synced) (get_or old.synced place 0) (get_or bytes place 0) (decide place old.ranges) (cases_lt place (length old.synced)) (synced_byte place kept);
+        ∙ pick_agrees (SomeOf (IsInside place) old.ranges) place (length old.synced) (get_or old.synced place 0)
+        (get_or bytes place 0) (decide place old.ranges) (cases_lt place (length old.synced)) (synced_byte place kept);
   }
 
 -- ---- steps
@@ -179,7 +209,8 @@ module _ (Kept : ℕ → Type 0) (old new : FileState) (c : ChangedApart Kept ol
 module _ (Kept : ℕ → Type 0) (old : FileState) where
   pub apart_same : ((n : ℕ) → SomeOf (λ size. n ≡ size) old.lengths → (place : ℕ) → Kept place → place < n)
       → ((place : ℕ) → Kept place → place < length old.bytes) → ChangedApart Kept old old
-  apart_same lengths long = record { synced = refl; ranges = λ place kept inside. inside; lengths = lengths; long = long }
+  apart_same lengths long = record
+      { synced = refl; ranges = λ place kept inside. inside; lengths = lengths; long = long }
 
   new_range : (new : FileState) (range : Range) (place : ℕ) → (IsInside place range → ⊥)
       → (SomeOf (IsInside place) new.ranges → SomeOf (IsInside place) old.ranges)
@@ -197,13 +228,17 @@ module _ (Kept : ℕ → Type 0) (old : FileState) where
       → ChangedApart Kept old (written at bytes new)
   apart_written new at bytes c free =
       let size = length-written at bytes new.bytes in
-      let long : (place : ℕ) → Kept place → place < length (with_bytes_at at bytes new.bytes) = λ place kept. let within = c.long place kept in omega (arith, within, size) in
+      let long : (place : ℕ) → Kept place → place < length (with_bytes_at at bytes new.bytes) = λ place kept.
+      let within = c.long place kept in omega (arith, within, size) in
       record {
         synced = c.synced;
         ranges = λ place kept.
             new_range new (record { start = min at (length new.bytes); end = at + length bytes }) place
-            (λ inside. let within = c.long place kept in elim (free place kept) [ inl before ↦ omega (arith, before, within, inside.0) | inr past ↦ omega (arith, past, inside.1) ]) (c.ranges place kept);
-        lengths = λ n had place kept. new_length new.lengths (length (with_bytes_at at bytes new.bytes)) n place (long place kept) (λ older. c.lengths n older place kept) had;
+            (λ inside. let within = c.long place kept in elim (free place kept)
+            [ inl before ↦ omega (arith, before, within, inside.0) | inr past ↦ omega (arith, past, inside.1) ])
+            (c.ranges place kept);
+        lengths = λ n had place kept. new_length new.lengths (length (with_bytes_at at bytes new.bytes)) n place
+            (long place kept) (λ older. c.lengths n older place kept) had;
         long = long;
       }
 
@@ -211,11 +246,14 @@ module _ (Kept : ℕ → Type 0) (old : FileState) where
       → ((place : ℕ) → Kept place → place < size) → ChangedApart Kept old (resized size new)
   apart_resized new size c free =
       let is = length-resized size new.bytes in
-      let long : (place : ℕ) → Kept place → place < length (with_length size new.bytes) = λ place kept. let below = free place kept in omega (arith, below, is) in
+      let long : (place : ℕ) → Kept place → place < length (with_length size new.bytes) = λ place kept. let below =
+      free place kept in omega (arith, below, is) in
       record {
         synced = c.synced;
         ranges = λ place kept.
-            new_range new (record { start = length new.bytes; end = size }) place (λ inside. let within = c.long place kept in omega (arith, within, inside.0)) (c.ranges place kept);
-        lengths = λ n had place kept. new_length new.lengths (length (with_length size new.bytes)) n place (long place kept) (λ older. c.lengths n older place kept) had;
+            new_range new (record { start = length new.bytes; end = size }) place
+            (λ inside. let within = c.long place kept in omega (arith, within, inside.0)) (c.ranges place kept);
+        lengths = λ n had place kept. new_length new.lengths (length (with_length size new.bytes)) n place
+            (long place kept) (λ older. c.lengths n older place kept) had;
         long = long;
       }

@@ -28,7 +28,8 @@ pub refused_has_none : (log : List ℕ) (fault : WalHeaderFault) (mark : Mark) �
 refused_has_none log fault mark long refused is_mark =
     let accepted = accepted_by_mark log mark is_mark in
     let front : read_header log ≡ read_header (take 32 log) =
-    ap read_header (sym (take-append-drop 32 log)) ∙ read_header-append (take 32 log) (drop 32 log) (omega (arith, long, length-take 32 log)) in
+    ap read_header (sym (take-append-drop 32 log)) ∙ read_header-append (take 32 log) (drop 32 log)
+    (omega (arith, long, length-take 32 log)) in
     let both : Err fault ≡ Ok accepted.0 = sym refused ∙ sym front ∙ accepted.1 in
     absurd cc
 
@@ -37,8 +38,11 @@ pub front_is : (log old new : List ℕ) (n : ℕ) → length old ≡ 32 → n �
     → new ≡ take n (drop 0 log) ++ drop n old → 32 ≤ n → (32 ≤ length log) × (new ≡ take 32 log)
 front_is log old new n len count is enough =
     let all : n ≡ 32 = omega (arith, len, count, enough) in
-    let none : drop n old ≡ [] = drop_all n old (omega (arith, len, all)) in
-    (omega (arith, len, count, all), is ∙ ap (λ (xs : List ℕ). take n (drop 0 log) ++ xs) none ∙ append-nil (take n (drop 0 log)) ∙ ap (λ (k : ℕ). take k log) all)
+    let none : drop n old ≡ [] = drop_all n old (omega (arith, len, all)) in (
+      omega (arith, len, count, all),
+      is ∙ ap (λ (xs : List ℕ). take n (drop 0 log) ++ xs) none
+          ∙ append-nil (take n (drop 0 log)) ∙ ap (λ (k : ℕ). take k log) all,
+    )
 
 -- a mark ends behind the header
 pub ends_long : (log : List ℕ) (mark : Mark) → IsMark log mark → 32 ≤ mark.end
@@ -48,10 +52,15 @@ ends_long log mark is_mark =
     omega (arith, long, length-take mark.end log)
 
 -- the mark is the last one exactly where none is behind it
-module _ (log : List ℕ) (mark : Mark) (from : ℕ) (scan : Scanned) (is_mark : IsMark log mark) (end : mark.end ≡ from) (within : from ≤ length log) (taken : HasTaken scan (take from log)) where
+module _ (log : List ℕ) (mark : Mark) (from : ℕ) (scan : Scanned) (is_mark : IsMark log mark) (end : mark.end ≡ from)
+    (within : from ≤ length log) (taken : HasTaken scan (take from log)) where
   pub last_by : (newer : Option Mark) (none : Bool) → is_some newer ≡ not none → IsNewer log from scan newer
       → (none ≡ true → last_mark_of log ≡ Some mark) × (last_mark_of log ≡ Some mark → none ≡ true)
-  last_by None true e is = (λ same. is_last log mark is_mark (last_mark_of log) refl (λ last found. let upto = is within taken last found in omega (arith, upto, end)), λ found. refl)
+  last_by None true e is = (
+    λ same. is_last log mark is_mark (last_mark_of log) refl
+        (λ last found. let upto = is within taken last found in omega (arith, upto, end)),
+    λ found. refl,
+  )
   last_by None false e is = absurd cc
   last_by (Some newer) true e is = absurd cc
   last_by (Some newer) false e is = (
@@ -64,13 +73,15 @@ module _ (log : List ℕ) (mark : Mark) (from : ℕ) (scan : Scanned) (is_mark :
   )
 
 -- no commit ends at an offset before which the log has none, or another last one
-module _ (log : List ℕ) (upto : ℕ) (within : upto ≤ length log) (mark : Mark) (is_mark : IsMark log mark) (end : mark.end ≡ upto) where
+module _ (log : List ℕ) (upto : ℕ) (within : upto ≤ length log) (mark : Mark) (is_mark : IsMark log mark)
+    (end : mark.end ≡ upto) where
   in_front : IsMark (take upto log) mark
   in_front = cut_keeps log upto mark is_mark (omega (arith, end))
 
   pub has_a_last : last_mark_of (take upto log) ≡ None → ⊥
   has_a_last none =
-      let among : Contains [] mark = subst (λ (ms : List Mark). Contains ms mark) (none_last (marks_of (take upto log)) None none).0 in_front in
+      let among : Contains [] mark = subst (λ (ms : List Mark). Contains ms mark)
+      (none_last (marks_of (take upto log)) None none).0 in_front in
       omega (arith, among.1)
 
   pub last_ends : (last : Mark) → last_mark_of (take upto log) ≡ Some last → last.end ≡ upto

@@ -52,7 +52,8 @@ none_earlier h frames mark last p before none =
     let a = frames_up_to h mark in
     let b = frames_up_to h last in
     let front : take a (take b frames) ≡ take a frames = take-take a b frames (fewer_frames h mark last before) in
-    ap (frames_page p) (sym front) ∙ none_in_front p (take a (take b frames)) (drop a (take b frames)) (ap (frames_page p) (take-append-drop a (take b frames)) ∙ none)
+    ap (frames_page p) (sym front) ∙ none_in_front p (take a (take b frames)) (drop a (take b frames))
+    (ap (frames_page p) (take-append-drop a (take b frames)) ∙ none)
 
 -- ---- a page by where it stands
 
@@ -65,27 +66,34 @@ pub stands_none : (size : ℕ) (log : List ℕ) (page : Option (List ℕ)) → S
 stands_none size log None stands = refl
 stands_none size log (Some page) stands = absurd stands
 
-module _ (log : List ℕ) (upto : ℕ) (h : WalHeader) (pages : BTreeMap ℕ ℕ) (mark : Mark) (is_last : Bool) (found : IsFound log upto h pages mark is_last) where
+module _ (log : List ℕ) (upto : ℕ) (h : WalHeader) (pages : BTreeMap ℕ ℕ) (mark : Mark) (is_last : Bool)
+    (found : IsFound log upto h pages mark is_last) where
   abbrev pub front_frames : List (List ℕ)
   front_frames = frames_to h (frames_under h log) mark
 
   frames_same : valid_frames (take upto log) ≡ front_frames
   frames_same =
-      let accepted = subst (λ (n : ℕ). read_header (take n log) ≡ Ok h) found.end (accepted_front log h found.head mark found.is_mark) in
-      valid_is (take upto log) h accepted ∙ ap (λ (n : ℕ). frames_under h (take n log)) (sym found.end) ∙ sym (frames_to_cut log h found.head mark found.is_mark)
+      let accepted = subst (λ (n : ℕ). read_header (take n log) ≡ Ok h) found.end
+      (accepted_front log h found.head mark found.is_mark) in
+      valid_is (take upto log) h accepted ∙ ap (λ (n : ℕ). frames_under h (take n log)) (sym found.end)
+      ∙ sym (frames_to_cut log h found.head mark found.is_mark)
 
   pub stands_at : (p : ℕ) → StandsFrom h.size log (get nat_cmp pages p) (frames_page p front_frames)
   stands_at p =
       subst (λ (fs : List (List ℕ)). StandsFrom h.size log (get nat_cmp pages p) (frames_page p fs)) frames_same
-      (subst (λ (xs : List ℕ). StandsFrom h.size xs (get nat_cmp pages p) (frames_page p (valid_frames (take upto log)))) (take-append-drop upto log)
-      (stands_more h.size (take upto log) (drop upto log) (get nat_cmp pages p) (frames_page p (valid_frames (take upto log))) (found.offsets p)))
+      (subst (λ (xs : List ℕ). StandsFrom h.size xs (get nat_cmp pages p)
+      (frames_page p (valid_frames (take upto log)))) (take-append-drop upto log)
+      (stands_more h.size (take upto log) (drop upto log) (get nat_cmp pages p)
+      (frames_page p (valid_frames (take upto log))) (found.offsets p)))
 
   pub page_found : (p at : ℕ) → get nat_cmp pages p ≡ Some at
       → (frames_page p front_frames ≡ Some (take h.size (drop at log))) × (at + h.size ≤ length log)
-  page_found p at is = stands_some h.size log at (frames_page p front_frames) (subst (λ (o : Option ℕ). StandsFrom h.size log o (frames_page p front_frames)) is (stands_at p))
+  page_found p at is = stands_some h.size log at (frames_page p front_frames)
+      (subst (λ (o : Option ℕ). StandsFrom h.size log o (frames_page p front_frames)) is (stands_at p))
 
   pub page_absent : (p : ℕ) → get nat_cmp pages p ≡ None → frames_page p front_frames ≡ None
-  page_absent p is = stands_none h.size log (frames_page p front_frames) (subst (λ (o : Option ℕ). StandsFrom h.size log o (frames_page p front_frames)) is (stands_at p))
+  page_absent p is = stands_none h.size log (frames_page p front_frames)
+      (subst (λ (o : Option ℕ). StandsFrom h.size log o (frames_page p front_frames)) is (stands_at p))
 
   pub are_within : AreWithin h.size pages log
   are_within p at is = (page_found p at is).1
@@ -93,7 +101,8 @@ module _ (log : List ℕ) (upto : ℕ) (h : WalHeader) (pages : BTreeMap ℕ ℕ
   -- there is a last mark
   pub has_last : (last : Option Mark) → last_mark_of log ≡ last → (m : Mark) × (last_mark_of log ≡ Some m)
   has_last None e =
-      let among : Contains [] mark = subst (λ (ms : List Mark). Contains ms mark) (none_last (marks_of log) None e).0 found.is_mark in
+      let among : Contains [] mark = subst (λ (ms : List Mark). Contains ms mark) (none_last (marks_of log) None e).0
+      found.is_mark in
       absurd (omega (arith, among.1))
   has_last (Some m) e = (m, e)
 
@@ -105,10 +114,14 @@ module _ (log : List ℕ) (upto : ℕ) (h : WalHeader) (pages : BTreeMap ℕ ℕ
       → get nat_cmp pages n ≡ Some at → p ≢ n
   not_left last e p n at left is same =
       let page = page_found n at is in
-      let accepted : if_accepted (read_header log) (λ k. frames_page p (frames_to k (valid_frames log) last)) None ≡ frames_page p (frames_to h (valid_frames log) last) =
+      let accepted : if_accepted (read_header log) (λ k. frames_page p (frames_to k (valid_frames log) last)) None
+      ≡ frames_page p (frames_to h (valid_frames log) last) =
       ap (λ r. if_accepted r (λ k. frames_page p (frames_to k (valid_frames log) last)) None) found.head in
       let none : frames_page p (frames_to h (frames_under h log) last) ≡ None =
-      ap (λ (fs : List (List ℕ)). frames_page p (frames_to h fs last)) (sym (valid_is log h found.head)) ∙ sym accepted ∙ left.unframed in
-      let earlier = none_earlier h (frames_under h log) mark last p (last_is_greatest log mark last found.is_mark e) none in
-      let both : Some (take h.size (drop at log)) ≡ None = sym page.0 ∙ ap (λ (k : ℕ). frames_page k front_frames) (sym same) ∙ earlier in
+      ap (λ (fs : List (List ℕ)). frames_page p (frames_to h fs last)) (sym (valid_is log h found.head))
+      ∙ sym accepted ∙ left.unframed in
+      let earlier = none_earlier h (frames_under h log) mark last p (last_is_greatest log mark last found.is_mark e)
+      none in
+      let both : Some (take h.size (drop at log)) ≡ None = sym page.0
+      ∙ ap (λ (k : ℕ). frames_page k front_frames) (sym same) ∙ earlier in
       absurd cc

@@ -50,7 +50,11 @@ module _ (db wal : List ℕ) (apart : db ≢ wal) (x : List Event) (named : AreN
       record {
         as_read = refl;
         others = record { others = λ q not. file_at-Synced x wal q };
-        named = λ _. record { database = is_named (Synced wal ∷ x) db p.n entry.d p.database; log = is_named (Synced wal ∷ x) wal p.k (synced_file entry.w.bytes) p.log };
+        named = λ _. record {
+          database = is_named (Synced wal ∷ x) db p.n entry.d p.database;
+          log = is_named
+              (Synced wal ∷ x) wal p.k (synced_file entry.w.bytes) p.log;
+        };
         at_any_stop = λ whole image was.
             elim (since_more (Synced wal) x (length x) image was) [
               | inl is ↦ (image, synced_was x wal image is, refl)
@@ -72,7 +76,8 @@ module _ (db wal : List ℕ) (apart : db ≢ wal) (x : List Event) (named : AreN
     file_now now d pair = ap (λ (left : Option (List ℕ)). unwrap_or left []) (reads now db pair.n d pair.database)
 
     pub log_now : (now : List Event) (d : FileState) → HasPair now db wal d (synced_file log) → bytes_at now wal ≡ log
-    log_now now d pair = ap (λ (left : Option (List ℕ)). unwrap_or left []) (reads now wal pair.k (synced_file log) pair.log)
+    log_now now d pair = ap (λ (left : Option (List ℕ)). unwrap_or left [])
+        (reads now wal pair.k (synced_file log) pair.log)
 
     pub keeps_pair : (now : List Event) (d : FileState) → HasPair now db wal d (synced_file log)
         → AgreeAt Kept d.bytes entry.d.bytes → (IsLong Kept db wal log entry.d → WereAlike Kept db wal log x now)
@@ -80,11 +85,18 @@ module _ (db wal : List ℕ) (apart : db ≢ wal) (x : List Event) (named : AreN
     keeps_pair now d pair agree alike others = record {
       as_read =
           let size = log_page_size log in
-          ap (λ (b : List ℕ). state_of_pair size b (bytes_at now wal)) (file_now now d pair) ∙ ap (state_of_pair size d.bytes) (log_now now d pair)
-          ∙ states_agree size log last d.bytes entry.d.bytes e agree ∙ ap (λ (b : List ℕ). state_of_pair size b log) (sym file_is);
+          ap (λ (b : List ℕ). state_of_pair size b (bytes_at now wal)) (file_now now d pair)
+          ∙ ap (state_of_pair size d.bytes) (log_now now d pair)
+          ∙ states_agree size log last d.bytes entry.d.bytes e agree
+          ∙ ap (λ (b : List ℕ). state_of_pair size b log) (sym file_is);
       others = record { others = others };
-      named = λ _. record { database = is_named now db pair.n d pair.database; log = is_named now wal pair.k (synced_file log) pair.log };
-      at_any_stop = λ whole. states_were (log_page_size log) db wal log last x now e (alike (is_long db wal x entry.d entry.w last apart entry.pair e whole));
+      named = λ _. record {
+        database = is_named now db pair.n d pair.database;
+        log = is_named now wal pair.k
+            (synced_file log) pair.log;
+      };
+      at_any_stop = λ whole. states_were (log_page_size log) db wal log last x now e
+          (alike (is_long db wal x entry.d entry.w last apart entry.pair e whole));
     }
 
     pub keeps_run : (now : List Event) (d : FileState) → Run Kept db wal log entry.d x now d → KeepsStates db wal x now
@@ -102,5 +114,7 @@ module _ (db wal : List ℕ) (apart : db ≢ wal) (x : List Event) (named : AreN
         → Run Kept db wal log entry.d x (after_writes db size writes (Synced wal ∷ x)) (pages_in size writes entry.d)
     run_pages size [] each = begun
     run_pages size (w ∷ writes) each =
-        run_writes Kept db wal log entry.d x entry.w entry.pair log_is apart (after_writes db size writes (Synced wal ∷ x)) (pages_in size writes entry.d) ((w.number - 1) * size) w.bytes
+        run_writes Kept db wal log entry.d x entry.w entry.pair log_is apart
+        (after_writes db size writes (Synced wal ∷ x)) (pages_in size writes entry.d) ((w.number - 1) * size)
+        w.bytes
         (run_pages size writes each.1) each.0.free

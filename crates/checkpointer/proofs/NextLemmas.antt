@@ -25,7 +25,8 @@ module _ (db wal : List ℕ) (apart : db ≢ wal) (upto : ℕ) where
   pub leaves_copied : (copied : CopiedState) (x y : List Event) → AreNamed x db wal → KeepsStates db wal x y
       → HasBackfilled db wal upto copied x y → MayRestart db wal copied y
   leaves_copied copied x y named k b =
-      let log : bytes_at y wal ≡ bytes_at x wal = ap (λ (left : Option (List ℕ)). unwrap_or left []) (k.others.others wal (λ same. apart (sym same))) in
+      let log : bytes_at y wal ≡ bytes_at x wal = ap (λ (left : Option (List ℕ)). unwrap_or left [])
+      (k.others.others wal (λ same. apart (sym same))) in
       record {
         named = k.named named;
         head = ap read_header log ∙ b.is_copied.head;
@@ -36,9 +37,11 @@ module _ (db wal : List ℕ) (apart : db ≢ wal) (upto : ℕ) where
   module _ (old new : Told) (named : IfTold old (λ x. AreNamed x db wal)) where
     pub named_after : (result : Result CopiedState BackfillFault) → GoesOn old new (Backfills db wal upto result)
         → IfTold new (λ y. AreNamed y db wal)
-    named_after result goes = carried old new (Backfills db wal upto result) (λ x. AreNamed x db wal) (λ y. AreNamed y db wal) goes named (λ x y b is. (keeps result x y b).named is)
+    named_after result goes = carried old new (Backfills db wal upto result) (λ x. AreNamed x db wal)
+        (λ y. AreNamed y db wal) goes named (λ x y b is. (keeps result x y b).named is)
 
     pub restart_may_follow : (copied : CopiedState) → GoesOn old new (Backfills db wal upto (Ok copied))
         → IfTold new (MayRestart db wal copied)
     restart_may_follow copied goes =
-        carried old new (Backfills db wal upto (Ok copied)) (λ x. AreNamed x db wal) (MayRestart db wal copied) goes named (λ x y b is. leaves_copied copied x y is b.0 b.1)
+        carried old new (Backfills db wal upto (Ok copied)) (λ x. AreNamed x db wal) (MayRestart db wal copied) goes
+        named (λ x y b is. leaves_copied copied x y is b.0 b.1)

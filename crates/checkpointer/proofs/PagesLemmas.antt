@@ -9,7 +9,7 @@ use Rattle.crash_disk.specs.FileState.{FileState, SomeOf, written}
 use Rattle.wal_frames.specs.View.{file_page}
 use Rattle.wal_frames.proofs.ViewLemmas.{length-file_page}
 use Rattle.checkpointer.specs.Copying.{Written, EachIs}
-use Rattle.checkpointer.proofs.FileLemmas.{get-written, get-written_here, length-written, get-resized}
+use Rattle.checkpointer.proofs.FileLemmas.{get-written, get-written_here, length-written, get-resized, get-grown}
 use Rattle.checkpointer.proofs.ViewOfPair.{get-file_page, same_file_page}
 
 -- ---- places
@@ -46,19 +46,28 @@ page_here size n bytes old long =
     let file = with_bytes_at ((n - 1) * size) bytes old in
     let many = length-file_page size file n in
     ext_get_or 0 (file_page size file n) bytes (many ∙ sym long)
-    (λ k below. let within : k < size = omega (arith, below, many) in get-file_page size file n k within ∙ get-written_here ((n - 1) * size) bytes old k (omega (arith, within, long)))
+    (λ k below. let within : k < size = omega (arith, below, many) in get-file_page size file n k within
+    ∙ get-written_here ((n - 1) * size) bytes old k (omega (arith, within, long)))
 
 pub page_elsewhere : (size n p : ℕ) (bytes old : List ℕ) → 1 ≤ n → 1 ≤ p → p ≢ n → length bytes ≤ size
     → file_page size (with_bytes_at ((n - 1) * size) bytes old) p ≡ file_page size old p
 page_elsewhere size n p bytes old first from apart within =
     same_file_page size (with_bytes_at ((n - 1) * size) bytes old) old p
-    (λ k below. get-written ((n - 1) * size) bytes old ((p - 1) * size + k) (outside size n p k (length bytes) first from apart below within))
+    (λ k below. get-written ((n - 1) * size) bytes old ((p - 1) * size + k)
+    (outside size n p k (length bytes) first from apart below within))
 
 -- a page stays in a file that is cut behind it, or that grows
 pub page_resized : (size bytes p : ℕ) (old : List ℕ) → 1 ≤ p → p * size ≤ bytes
     → file_page size (with_length bytes old) p ≡ file_page size old p
 page_resized size bytes p old from within =
-    same_file_page size (with_length bytes old) old p (λ k below. get-resized bytes old ((p - 1) * size + k) (omega (arith, below, within, page_ends size p from)))
+    same_file_page size (with_length bytes old) old p
+    (λ k below. get-resized bytes old ((p - 1) * size + k) (omega (arith, below, within, page_ends size p from)))
+
+-- each page stays in a file that grows
+pub page_grown : (size bytes p : ℕ) (old : List ℕ) → length old ≤ bytes
+    → file_page size (with_length bytes old) p ≡ file_page size old p
+page_grown size bytes p old short =
+    same_file_page size (with_length bytes old) old p (λ k below. get-grown bytes old ((p - 1) * size + k) short)
 
 -- ---- many pages
 
@@ -79,7 +88,8 @@ module _ (size commit : ℕ) (d : FileState) where
       → file_page size (pages_in size writes d).bytes p ≡ file_page size d.bytes p
   page_unwritten p [] from each none = refl
   page_unwritten p (w ∷ writes) from each none =
-      page_elsewhere size w.number p w.bytes (pages_in size writes d).bytes each.0.from from (λ same. none (inl (sym same))) each.0.within
+      page_elsewhere size w.number p w.bytes (pages_in size writes d).bytes each.0.from from
+      (λ same. none (inl (sym same))) each.0.within
       ∙ page_unwritten p writes from each.1 (λ some. none (inr some))
 
   pub page_written : (p : ℕ) (page : List ℕ) (writes : List Written) → 1 ≤ p → EachIs (IsOne size commit) writes
@@ -91,9 +101,11 @@ module _ (size commit : ℕ) (d : FileState) where
         | inl same ↦
             let bytes : w.bytes ≡ page = is.0 same in
             ap (λ (n : ℕ). file_page size (pages_in size (w ∷ writes) d).bytes n) (sym same)
-            ∙ page_here size w.number w.bytes (pages_in size writes d).bytes (ap (λ (xs : List ℕ). length xs) bytes ∙ long) ∙ bytes
+            ∙ page_here size w.number w.bytes (pages_in size writes d).bytes
+            (ap (λ (xs : List ℕ). length xs) bytes ∙ long) ∙ bytes
         | inr apart ↦
-            page_elsewhere size w.number p w.bytes (pages_in size writes d).bytes each.0.from from (λ same. apart (sym same)) each.0.within
+            page_elsewhere size w.number p w.bytes (pages_in size writes d).bytes each.0.from from
+            (λ same. apart (sym same)) each.0.within
             ∙ page_written p page writes from each.1 is.1 long (older w writes p apart some)
       ]
     where
@@ -104,7 +116,8 @@ module _ (size commit : ℕ) (d : FileState) where
 
   -- the file never gets shorter, nor longer than the pages need
   pub length-pages : (writes : List Written) → EachIs (IsOne size commit) writes
-      → (length d.bytes ≤ length (pages_in size writes d).bytes) × (length (pages_in size writes d).bytes ≤ max (length d.bytes) (commit * size))
+      → (length d.bytes ≤ length (pages_in size writes d).bytes)
+      × (length (pages_in size writes d).bytes ≤ max (length d.bytes) (commit * size))
   length-pages [] each = (omega arith, omega arith)
   length-pages (w ∷ writes) each =
       let so_far = length-pages writes each.1 in

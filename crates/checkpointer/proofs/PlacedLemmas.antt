@@ -13,7 +13,10 @@ placed_named events db wal a b apart is =
     let now = Placed wal b ∷ before in
     subst (λ (es : List Event). AreNamed es db wal) (sym is) (record {
       database = record {
-        there = record { there = subst (λ (file : Option (List ℕ)). IsSome file) (sym (file_at-Placed-other before wal b db apart ∙ file_at-Placed-here [] db a)) refl };
+        there = record {
+          there = subst (λ (file : Option (List ℕ)). IsSome file)
+              (sym (file_at-Placed-other before wal b db apart ∙ file_at-Placed-here [] db a)) refl;
+        };
         synced = (ArePlaced-settled now db tt).number;
       };
       log = record { there = IsThere-Placed before wal b; synced = (ArePlaced-settled now wal tt).number };

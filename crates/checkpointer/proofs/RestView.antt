@@ -20,7 +20,8 @@ use Rattle.checkpointer.specs.Copying.{IsCopiedNumber}
 use Rattle.checkpointer.proofs.ViewOfPair.{same_pages}
 
 pub unlocked : (size p : ℕ) (page : List ℕ) → p ≢ lock_page size → unless_locked size p page ≡ page
-unlocked size p page other = ap (λ (locked : Bool). cond locked (replicate size 0) page) (ne_eqb p (lock_page size) other)
+unlocked size p page other = ap (λ (locked : Bool). cond locked (replicate size 0) page)
+    (ne_eqb p (lock_page size) other)
 
 same_unless : (size : ℕ) (locked : Bool) (a b : List ℕ) → (locked ≡ false → a ≡ b)
     → cond locked (replicate size 0) a ≡ cond locked (replicate size 0) b
@@ -31,27 +32,39 @@ own_or : (page : Option (List ℕ)) (own other : List ℕ) → own ≡ unwrap_or
 own_or None own other is = refl
 own_or (Some page) own other is = is
 
-module _ (log : List ℕ) (h : WalHeader) (accepted : read_header log ≡ Ok h) (mark : Mark) (is_mark : IsMark log mark) where
-  pub some_size : 1 ≤ h.size
-  some_size = let is_size = (accepts log h accepted).size in rw is_size.3 (one-le-pow is_size.0 2 (omega arith))
+module _ (log : List ℕ) (h : WalHeader) (accepted : read_header log ≡ Ok h) (mark : Mark) (is_mark : IsMark log mark)
+  where
+    pub some_size : 1 ≤ h.size
+    some_size = let is_size = (accepts log h accepted).size in rw is_size.3 (one-le-pow is_size.0 2 (omega arith))
 
-  pub some_page : 1 ≤ mark.commit
-  some_page = let stands = mark_stands log h mark accepted is_mark in omega (arith, stands.commits, ap (λ (m : Mark). m.commit) stands.is)
+    pub some_page : 1 ≤ mark.commit
+    some_page = let stands = mark_stands log h mark accepted is_mark in omega
+        (arith, stands.commits, ap (λ (m : Mark). m.commit) stands.is)
 
-  module _ (file before : List ℕ) (long : length file ≡ mark.commit * h.size) where
-    many : file_pages h.size file ≡ mark.commit
-    many =
-        let times : (length file + (h.size - 1)) / h.size ≡ mark.commit = quotient (length file + (h.size - 1)) h.size mark.commit (h.size - 1) (omega (arith, long)) (omega (arith, some_size)) in
-        ap (λ (n : ℕ). max 1 n) times ∙ omega (arith, some_page)
+    module _ (file before : List ℕ) (long : length file ≡ mark.commit * h.size) where
+      many : file_pages h.size file ≡ mark.commit
+      many =
+          let times : (length file + (h.size - 1)) / h.size ≡ mark.commit = quotient (length file + (h.size - 1)) h.size
+          mark.commit (h.size - 1) (omega (arith, long)) (omega (arith, some_size)) in
+          ap (λ (n : ℕ). max 1 n) times ∙ omega (arith, some_page)
 
-    pub rest_view : ((p : ℕ) → IsCopiedNumber h.size mark.commit p → file_page h.size file p ≡ unwrap_or (frames_page p (frames_to h (frames_under h log) mark)) (file_page h.size before p))
-        → view_at_rest h.size file ≡ view_at file log mark
-    rest_view each =
-        let pages : map (page_at_rest h.size file) (range_with_len 1 mark.commit) ≡ map (page_at_mark h file (frames_under h log) mark) (range_with_len 1 mark.commit) =
-        same_pages (page_at_rest h.size file) (page_at_mark h file (frames_under h log) mark) 1 mark.commit
-        (λ p low high. same_unless h.size (eqb p (lock_page h.size)) (file_page h.size file p) (unwrap_or (frames_page p (frames_to h (frames_under h log) mark)) (file_page h.size file p))
-        (λ not_locked. own_or (frames_page p (frames_to h (frames_under h log) mark)) (file_page h.size file p) (file_page h.size before p)
-        (each p (record { from = low; upto = omega (arith, high); unlocked = eqb-false p (lock_page h.size) not_locked }))))
-        in
-        (λ i. record { page_size = Some h.size; pages = map (page_at_rest h.size file) (range_with_len 1 (many i)) })
-        ∙ (λ i. record { page_size = Some h.size; pages = pages i }) ∙ sym (view_is log h accepted file mark)
+      pub rest_view : ((p : ℕ) → IsCopiedNumber h.size mark.commit p
+          → file_page h.size file p ≡ unwrap_or (frames_page p (frames_to h (frames_under h log) mark))
+          (file_page h.size before p))
+          → view_at_rest h.size file ≡ view_at file log mark
+      rest_view each =
+          let pages : map (page_at_rest h.size file) (range_with_len 1 mark.commit) ≡ map
+          (page_at_mark h file (frames_under h log) mark) (range_with_len 1 mark.commit) =
+          same_pages (page_at_rest h.size file) (page_at_mark h file (frames_under h log) mark) 1 mark.commit
+          (λ p low high. same_unless h.size (eqb p (lock_page h.size)) (file_page h.size file p)
+          (unwrap_or (frames_page p (frames_to h (frames_under h log) mark)) (file_page h.size file p))
+          (λ not_locked. own_or (frames_page p (frames_to h (frames_under h log) mark)) (file_page h.size file p)
+          (file_page h.size before p)
+          (each p (record {
+            from = low;
+            upto = omega (arith, high);
+            unlocked = eqb-false p (lock_page h.size) not_locked;
+          }))))
+          in
+          (λ i. record { page_size = Some h.size; pages = map (page_at_rest h.size file) (range_with_len 1 (many i)) })
+          ∙ (λ i. record { page_size = Some h.size; pages = pages i }) ∙ sym (view_is log h accepted file mark)

@@ -26,7 +26,8 @@ module _ (Kept : ℕ → Type 0) (db wal log : List ℕ) where
 
   -- each image since is one of before, or is like one
   abbrev pub WereAlike : List Event → List Event → Type 0
-  WereAlike before now = (image : Files) → WasCrashImageSince now (length before) image → IsCrashImage before image ⊎ IsAlike before image
+  WereAlike before now = (image : Files) → WasCrashImageSince now (length before) image → IsCrashImage before image
+      ⊎ IsAlike before image
 
   -- no place that is kept is past the end of what a crash leaves of the file
   abbrev pub IsLong : FileState → Type 0
@@ -40,7 +41,8 @@ module _ (Kept : ℕ → Type 0) (db wal log : List ℕ) where
     pub alike : IsLong old → WereAlike before now
     pub others : (q : List ℕ) → q ≢ db → file_at now q ≡ file_at before q
 
-  module _ (old : FileState) (before : List Event) (w : FileState) (start : HasPair before db wal old w) (log_is : w.bytes ≡ log) (names : db ≢ wal) where
+  module _ (old : FileState) (before : List Event) (w : FileState) (start : HasPair before db wal old w)
+      (log_is : w.bytes ≡ log) (names : db ≢ wal) where
     had : SomeOf (λ size. length old.bytes ≡ size) old.lengths
     had = (itself before db start.n old start.database).had_length
 
@@ -53,20 +55,24 @@ module _ (Kept : ℕ → Type 0) (db wal log : List ℕ) where
         let logged = leaves_image now wal p.k (synced_file log) image p.log is in
         let was = like database.bytes database.image in
         let o = old_image before db wal old w was.before names start was.image in
-        let bytes : bytes_in image db ≡ database.bytes = ap (λ (left : Option (List ℕ)). unwrap_or left []) database.there in
+        let bytes : bytes_in image db ≡ database.bytes = ap (λ (left : Option (List ℕ)). unwrap_or left [])
+        database.there in
         record {
           old = o.files;
           is = o.is;
           log_old = o.log_is ∙ log_is;
-          log_now = ap (λ (left : Option (List ℕ)). unwrap_or left []) logged.there ∙ IsFileImage-settled (synced_file log) logged.bytes refl logged.image;
-          agree = λ place kept. ap (λ (xs : List ℕ). get_or xs place 0) o.database ∙ was.agree place kept ∙ ap (λ (xs : List ℕ). get_or xs place 0) (sym bytes);
+          log_now = ap (λ (left : Option (List ℕ)). unwrap_or left []) logged.there
+              ∙ IsFileImage-settled (synced_file log) logged.bytes refl logged.image;
+          agree = λ place kept. ap (λ (xs : List ℕ). get_or xs place 0) o.database ∙ was.agree place kept
+              ∙ ap (λ (xs : List ℕ). get_or xs place 0) (sym bytes);
         }
 
     alike_more : (now : List Event) (event : Event) (d : FileState) → HasPair (event ∷ now) db wal d (synced_file log)
         → ((bytes : List ℕ) → IsFileImage d bytes → IsLikeBefore Kept old bytes)
         → WereAlike before now → WereAlike before (event ∷ now)
     alike_more now event d p like earlier image was =
-        elim (since_more event now (length before) image was) [ inl is ↦ inr (alike_now (event ∷ now) d image p like is) | inr since ↦ earlier image since ]
+        elim (since_more event now (length before) image was)
+        [ inl is ↦ inr (alike_now (event ∷ now) d image p like is) | inr since ↦ earlier image since ]
 
     changed_like : (d : FileState) → IsLong old → ChangedApart Kept old d → (bytes : List ℕ) → IsFileImage d bytes
         → IsLikeBefore Kept old bytes
@@ -75,12 +81,16 @@ module _ (Kept : ℕ → Type 0) (db wal log : List ℕ) where
     -- the log is synced
     pub run_begins : Run old before (Synced wal ∷ before) old
     run_begins =
-        let pair : HasPair (Synced wal ∷ before) db wal old (synced_file log) = subst (λ (xs : List ℕ). HasPair (Synced wal ∷ before) db wal old (synced_file xs)) log_is (pair-Synced_log before db wal old w start) in
+        let pair : HasPair (Synced wal ∷ before) db wal old (synced_file log) =
+        subst (λ (xs : List ℕ). HasPair (Synced wal ∷ before) db wal old (synced_file xs)) log_is
+        (pair-Synced_log before db wal old w start) in
         record {
           pair = pair;
           agree = λ place kept. refl;
           changed = λ long. apart_same Kept old long (long (length old.bytes) had);
-          alike = λ long. alike_more before (Synced wal) old pair (changed_like old long (apart_same Kept old long (long (length old.bytes) had))) (λ image was. inl (since_start before image was));
+          alike = λ long. alike_more before (Synced wal) old pair
+              (changed_like old long (apart_same Kept old long (long (length old.bytes) had)))
+              (λ image was. inl (since_start before image was));
           others = λ q not. file_at-Synced before wal q;
         }
 
@@ -94,7 +104,9 @@ module _ (Kept : ℕ → Type 0) (db wal log : List ℕ) where
           pair = pair;
           agree = λ place kept. get-written at bytes d.bytes place (free place kept) ∙ r.agree place kept;
           changed = λ long. apart_written Kept old d at bytes (r.changed long) free;
-          alike = λ long. alike_more now (Wrote db at bytes) (written at bytes d) pair (changed_like (written at bytes d) long (apart_written Kept old d at bytes (r.changed long) free)) (r.alike long);
+          alike = λ long. alike_more now (Wrote db at bytes) (written at bytes d) pair
+              (changed_like (written at bytes d) long (apart_written Kept old d at bytes (r.changed long) free))
+              (r.alike long);
           others = λ q not. file_at-Wrote-other now db at bytes q not ∙ r.others q not;
         }
 
@@ -107,7 +119,8 @@ module _ (Kept : ℕ → Type 0) (db wal log : List ℕ) where
           pair = pair;
           agree = λ place kept. get-resized size d.bytes place (free place kept) ∙ r.agree place kept;
           changed = λ long. apart_resized Kept old d size (r.changed long) free;
-          alike = λ long. alike_more now (Cut db size) (resized size d) pair (changed_like (resized size d) long (apart_resized Kept old d size (r.changed long) free)) (r.alike long);
+          alike = λ long. alike_more now (Cut db size) (resized size d) pair
+              (changed_like (resized size d) long (apart_resized Kept old d size (r.changed long) free)) (r.alike long);
           others = λ q not. file_at-Cut-other now db size q not ∙ r.others q not;
         }
 
@@ -116,12 +129,15 @@ module _ (Kept : ℕ → Type 0) (db wal log : List ℕ) where
         → Run old before (Cut db size ∷ now) (resized size d)
     run_grows now d size r short =
         let pair = pair-Cut now db wal d (synced_file log) r.pair size in
-        let apart : IsLong old → ChangedApart Kept old (resized size d) = λ long. apart_resized Kept old d size (r.changed long) (λ place kept. let within = (r.changed long).long place kept in omega (arith, within, short)) in
+        let apart : IsLong old → ChangedApart Kept old (resized size d) = λ long. apart_resized Kept old d size
+        (r.changed long) (λ place kept. let within = (r.changed long).long place kept in omega
+        (arith, within, short)) in
         record {
           pair = pair;
           agree = λ place kept. get-grown size d.bytes place short ∙ r.agree place kept;
           changed = apart;
-          alike = λ long. alike_more now (Cut db size) (resized size d) pair (changed_like (resized size d) long (apart long)) (r.alike long);
+          alike = λ long. alike_more now (Cut db size) (resized size d) pair
+              (changed_like (resized size d) long (apart long)) (r.alike long);
           others = λ q not. file_at-Cut-other now db size q not ∙ r.others q not;
         }
 
@@ -140,7 +156,9 @@ module _ (Kept : ℕ → Type 0) (db wal log : List ℕ) where
           agree = r.agree;
           alike = λ long. alike_more now (Synced db) (synced_file d.bytes) pair
               (λ bytes image. changed_like d long (r.changed long) bytes
-              (subst (λ (xs : List ℕ). IsFileImage d xs) (sym (IsFileImage-settled (synced_file d.bytes) bytes refl image)) (itself now db r.pair.n d r.pair.database)))
+              (subst (λ (xs : List ℕ). IsFileImage d xs)
+              (sym (IsFileImage-settled (synced_file d.bytes) bytes refl image))
+              (itself now db r.pair.n d r.pair.database)))
               (r.alike long);
           others = λ q not. file_at-Synced now db q ∙ r.others q not;
         }

@@ -8,7 +8,8 @@ use Rattle.crash_disk.proofs.FileLaws.{file_at-Cut-here}
 
 pub gained : (old new : Told) (event : Event) (P Q : List Event → Type 0) → new ≡ gains old event
     → ((x : List Event) → P x → Q (event ∷ x)) → IfTold old P → IfTold new Q
-gained None new event P Q is step held events told = let none : ◌≡◌ {A = Told} None (Some events) = sym is ∙ told in absurd cc
+gained None new event P Q is step held events told = let none : ◌≡◌ {A = Told} None (Some events) = sym is
+    ∙ told in absurd cc
 gained (Some x) new event P Q is step held events told =
     let both : ◌≡◌ {A = Told} (Some (event ∷ x)) (Some events) = sym is ∙ told in
     let same : event ∷ x ≡ events = cc in
@@ -17,7 +18,8 @@ gained (Some x) new event P Q is step held events told =
 there_cut : (events : List Event) (name : List ℕ) (size : ℕ) (file : Option (List ℕ)) → file_at events name ≡ file
     → IsSome file → IsThere (Cut name size ∷ events) name
 there_cut events name size None e some = absurd cc
-there_cut events name size (Some bytes) e some = record { there = subst (λ (x : Option (List ℕ)). IsSome x) (sym (file_at-Cut-here events name size bytes e)) refl }
+there_cut events name size (Some bytes) e some = record
+    { there = subst (λ (x : Option (List ℕ)). IsSome x) (sym (file_at-Cut-here events name size bytes e)) refl }
 
 pub still_there_cut : (events : List Event) (name : List ℕ) (size : ℕ) → IsThere events name
     → IsThere (Cut name size ∷ events) name

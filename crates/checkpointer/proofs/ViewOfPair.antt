@@ -32,7 +32,8 @@ pub record IsKept (log : List ℕ) (mark : Mark) (place : ℕ) : Type 0 where
 pub get-file_page : (size : ℕ) (file : List ℕ) (p k : ℕ) → k < size
     → get_or (file_page size file p) k 0 ≡ get_or file ((p - 1) * size + k) 0
 get-file_page size file p k below =
-    get_or-take size (drop ((p - 1) * size) file ++ replicate size 0) k 0 below ∙ get-padded (drop ((p - 1) * size) file) size k ∙ get_or-drop ((p - 1) * size) file k 0
+    get_or-take size (drop ((p - 1) * size) file ++ replicate size 0) k 0 below
+    ∙ get-padded (drop ((p - 1) * size) file) size k ∙ get_or-drop ((p - 1) * size) file k 0
 
 pub same_file_page : (size : ℕ) (a b : List ℕ) (p : ℕ)
     → ((k : ℕ) → k < size → get_or a ((p - 1) * size + k) 0 ≡ get_or b ((p - 1) * size + k) 0)
@@ -41,17 +42,20 @@ same_file_page size a b p same =
     let left = length-file_page size a p in
     let right = length-file_page size b p in
     ext_get_or 0 (file_page size a p) (file_page size b p) (left ∙ sym right)
-    (λ k below. let within : k < size = omega (arith, below, left) in get-file_page size a p k within ∙ same k within ∙ sym (get-file_page size b p k within))
+    (λ k below. let within : k < size = omega (arith, below, left) in get-file_page size a p k within ∙ same k within
+    ∙ sym (get-file_page size b p k within))
 
 pub same_pages : (f g : ℕ → List ℕ) (a n : ℕ) → ((p : ℕ) → a ≤ p → p < a + n → f p ≡ g p)
     → map f (range_with_len a n) ≡ map g (range_with_len a n)
 same_pages f g a zero same = refl
 same_pages f g a (suc n) same =
     let first : f a ≡ g a = same a (omega arith) (omega arith) in
-    let rest : map f (range_with_len (a + 1) n) ≡ map g (range_with_len (a + 1) n) = same_pages f g (a + 1) n (λ p low high. same p (omega (arith, low)) (omega (arith, high))) in
+    let rest : map f (range_with_len (a + 1) n) ≡ map g (range_with_len (a + 1) n) = same_pages f g (a + 1) n
+    (λ p low high. same p (omega (arith, low)) (omega (arith, high))) in
     λ i. first i ∷ rest i
 
-module _ (log : List ℕ) (mark : Mark) (h : WalHeader) (accepted : read_header log ≡ Ok h) (a b : List ℕ) (agree : AgreeAt (IsKept log mark) a b) where
+module _ (log : List ℕ) (mark : Mark) (h : WalHeader) (accepted : read_header log ≡ Ok h) (a b : List ℕ)
+    (agree : AgreeAt (IsKept log mark) a b) where
   size_is : log_page_size log ≡ h.size
   size_is = rw accepted refl
 
@@ -91,14 +95,19 @@ module _ (log : List ℕ) (mark : Mark) (h : WalHeader) (accepted : read_header 
   pub pages_agree : (p : ℕ) → 1 ≤ p → p ≤ mark.commit → page_at_mark h a frames mark p ≡ page_at_mark h b frames mark p
   pages_agree p from upto =
       let page = frames_page p (frames_to h frames mark) in
-      locked_agrees p (eqb p (lock_page h.size)) (unwrap_or page (file_page h.size a p)) (unwrap_or page (file_page h.size b p))
-      (λ unlocked. else_agrees p page (λ none. page_agrees p from (from_file p from upto (eqb-false p (lock_page h.size) unlocked) none)))
+      locked_agrees p (eqb p (lock_page h.size)) (unwrap_or page (file_page h.size a p))
+      (unwrap_or page (file_page h.size b p))
+      (λ unlocked. else_agrees p page
+      (λ none. page_agrees p from (from_file p from upto (eqb-false p (lock_page h.size) unlocked) none)))
 
   pub views_agree : view_at a log mark ≡ view_at b log mark
   views_agree =
-      let pages : map (page_at_mark h a frames mark) (range_with_len 1 mark.commit) ≡ map (page_at_mark h b frames mark) (range_with_len 1 mark.commit) =
-      same_pages (page_at_mark h a frames mark) (page_at_mark h b frames mark) 1 mark.commit (λ p low high. pages_agree p low (omega (arith, high))) in
-      view_is log h accepted a mark ∙ (λ i. record { page_size = Some h.size; pages = pages i }) ∙ sym (view_is log h accepted b mark)
+      let pages : map (page_at_mark h a frames mark) (range_with_len 1 mark.commit) ≡ map
+      (page_at_mark h b frames mark) (range_with_len 1 mark.commit) =
+      same_pages (page_at_mark h a frames mark) (page_at_mark h b frames mark) 1 mark.commit
+      (λ p low high. pages_agree p low (omega (arith, high))) in
+      view_is log h accepted a mark ∙ (λ i. record { page_size = Some h.size; pages = pages i })
+      ∙ sym (view_is log h accepted b mark)
 
 -- ---- the state of a pair
 
@@ -111,7 +120,8 @@ pub states_agree : (size : ℕ) (log : List ℕ) (mark : Mark) (a b : List ℕ) 
     → AgreeAt (IsKept log mark) a b → state_of_pair size a log ≡ state_of_pair size b log
 states_agree size log mark a b e agree =
     let accepted = accepted_by_mark log mark (last_is_mark log mark e) in
-    state_at_mark size a log mark e ∙ views_agree log mark accepted.0 accepted.1 a b agree ∙ sym (state_at_mark size b log mark e)
+    state_at_mark size a log mark e ∙ views_agree log mark accepted.0 accepted.1 a b agree
+    ∙ sym (state_at_mark size b log mark e)
 
 pub states_were : (size : ℕ) (db wal log : List ℕ) (mark : Mark) (before now : List Event)
     → last_mark_of log ≡ Some mark → WereAlike (IsKept log mark) db wal log before now

@@ -26,7 +26,8 @@ synced_image : (events : List Event) (n : ℕ) (here : Bool) (bytes : List ℕ)
     → IsFileImage (cond here (synced_file (file_of events n).bytes) (file_of events n)) bytes
     → IsFileImage (file_of events n) bytes
 synced_image events n true bytes image =
-    subst (λ (xs : List ℕ). IsFileImage (file_of events n) xs) (sym (IsFileImage-settled (synced_file (file_of events n).bytes) bytes refl image)) (reads_as_image events n)
+    subst (λ (xs : List ℕ). IsFileImage (file_of events n) xs)
+    (sym (IsFileImage-settled (synced_file (file_of events n).bytes) bytes refl image)) (reads_as_image events n)
 synced_image events n false bytes image = image
 
 synced_left : (events : List Event) (name : List ℕ) (number : Option ℕ) (left : Option (List ℕ))
@@ -35,13 +36,16 @@ unfolding file_of
 synced_left events name None None image = image
 synced_left events name None (Some bytes) image = image
 synced_left events name (Some n) None image = image
-synced_left events name (Some n) (Some bytes) image = synced_image events n (is_number n (number_at events name)) bytes image
+synced_left events name (Some n) (Some bytes) image = synced_image events n (is_number n (number_at events name))
+    bytes image
 
 synced_stands : (events : List Event) (name q : List ℕ) (left : Option (List ℕ))
     → MayStandAt (Synced name ∷ events) q left → MayStandAt events q left
 unfolding numbers_at
 synced_stands events name q left is = record {
-  one = SomeOf-weaken (λ number. IsImageOf (Synced name ∷ events) number left) (λ number. IsImageOf events number left) (numbers_at events q) (λ number _ image. synced_left events name number left image) is.one;
+  one = SomeOf-weaken (λ number. IsImageOf (Synced name ∷ events) number left)
+      (λ number. IsImageOf events number left) (numbers_at events q)
+      (λ number _ image. synced_left events name number left image) is.one;
 }
 
 pub synced_was : (events : List Event) (name : List ℕ) (image : Files) → IsCrashImage (Synced name ∷ events) image
@@ -62,7 +66,8 @@ module _ (old : FileState) (n : ℕ) (had : SomeOf (λ size. n ≡ size) old.len
   kept_image = record {
     had_length = subst (λ (k : ℕ). SomeOf (λ size. k ≡ size) old.lengths) (sym length-kept) had;
     kept = λ place below synced free.
-        get_or-map-range_with_len (λ k. get_or old.synced k 0) 0 n place place 0 (omega (arith, below, length-kept)) (omega arith);
+        get_or-map-range_with_len (λ k. get_or old.synced k 0) 0 n place place 0 (omega (arith, below, length-kept))
+        (omega arith);
   }
 
 -- where the pages that the last mark leaves to the file are whole, none of their places is past its end

@@ -27,13 +27,16 @@ module _ (db wal : List ℕ) (apart : db ≢ wal) (size : ℕ) (x : List Event) 
   pub log_kept : (writes : List Written) → bytes_at (after_writes db size writes x) wal ≡ bytes_at x wal
   log_kept [] = refl
   log_kept (w ∷ writes) =
-      ap (λ (file : Option (List ℕ)). unwrap_or file []) (file_at-Wrote-other (after_writes db size writes x) db ((w.number - 1) * size) w.bytes wal (λ same. apart (sym same)))
+      ap (λ (file : Option (List ℕ)). unwrap_or file [])
+      (file_at-Wrote-other (after_writes db size writes x) db ((w.number - 1) * size) w.bytes wal
+      (λ same. apart (sym same)))
       ∙ log_kept writes
 
 there_wrote : (x : List Event) (db : List ℕ) (at : ℕ) (bytes : List ℕ) (file : Option (List ℕ)) → file_at x db ≡ file
     → IsSome file → IsThere (Wrote db at bytes ∷ x) db
 there_wrote x db at bytes None e some = absurd cc
-there_wrote x db at bytes (Some old) e some = record { there = subst (λ (file : Option (List ℕ)). IsSome file) (sym (file_at-Wrote-here x db at bytes old e)) refl }
+there_wrote x db at bytes (Some old) e some = record
+    { there = subst (λ (file : Option (List ℕ)). IsSome file) (sym (file_at-Wrote-here x db at bytes old e)) refl }
 
 pub still_there_wrote : (x : List Event) (db : List ℕ) (at : ℕ) (bytes : List ℕ) → IsThere x db
     → IsThere (Wrote db at bytes ∷ x) db
@@ -42,7 +45,8 @@ still_there_wrote x db at bytes is = there_wrote x db at bytes (file_at x db) re
 pub still_there : (db : List ℕ) (size : ℕ) (x : List Event) (writes : List Written) → IsThere x db
     → IsThere (after_writes db size writes x) db
 still_there db size x [] is = is
-still_there db size x (w ∷ writes) is = still_there_wrote (after_writes db size writes x) db ((w.number - 1) * size) w.bytes (still_there db size x writes is)
+still_there db size x (w ∷ writes) is = still_there_wrote (after_writes db size writes x) db ((w.number - 1) * size)
+    w.bytes (still_there db size x writes is)
 
 -- ---- the loop over the pages
 
@@ -51,7 +55,8 @@ abbrev pub AreRest : BTreeMap ℕ ℕ → List (ℕ × ℕ) → Type 0
 AreRest pages rest = (number at : ℕ) → Contains rest (number, at) → get nat_cmp pages number ≡ Some at
 
 -- the pages that aren't left were written
-pub record CopiesSome (db wal : List ℕ) (size commit : ℕ) (pages : BTreeMap ℕ ℕ) (rest : List (ℕ × ℕ)) (old new : List Event) : Type 0 where
+pub record CopiesSome (db wal : List ℕ) (size commit : ℕ) (pages : BTreeMap ℕ ℕ) (rest : List (ℕ × ℕ))
+    (old new : List Event) : Type 0 where
   pub writes : List Written
   pub is : new ≡ after_writes db size writes old
   pub each : EachIs (IsPageOf size commit pages (bytes_at old wal)) writes
@@ -66,17 +71,20 @@ each_weaker P Q (w ∷ writes) implies each = (implies w each.0, each_weaker P Q
 module _ (db wal : List ℕ) (size commit : ℕ) (pages : BTreeMap ℕ ℕ) where
   pub rest_begins : (rest : List (ℕ × ℕ)) → IsOrdered nat_cmp pages → rest ≡ pages.entries → AreRest pages rest
   rest_begins rest ordered is number at among =
-      (btree_map_get_iff nat_cmp_total exact_unsigned pages ordered number at).1 (subst (λ (es : List (ℕ × ℕ)). Contains es (number, at)) is among)
+      (btree_map_get_iff nat_cmp_total exact_unsigned pages ordered number at).1
+      (subst (λ (es : List (ℕ × ℕ)). Contains es (number, at)) is among)
 
   pub copy_begins : (rest : List (ℕ × ℕ)) (old now : Told) → IsOrdered nat_cmp pages → rest ≡ pages.entries → now ≡ old
       → GoesOn old now (CopiesSome db wal size commit pages rest)
-  copy_begins rest old now ordered is same = goes_on-same old now (CopiesSome db wal size commit pages rest) same (λ x. record {
-    writes = [];
-    is = refl;
-    each = tt;
-    all = λ number at found copied.
-        inr (subst (λ (es : List (ℕ × ℕ)). Contains es (number, at)) (sym is) ((btree_map_get_iff nat_cmp_total exact_unsigned pages ordered number at).0 found));
-  })
+  copy_begins rest old now ordered is same = goes_on-same old now (CopiesSome db wal size commit pages rest) same
+      (λ x. record {
+        writes = [];
+        is = refl;
+        each = tt;
+        all = λ number at found copied.
+            inr (subst (λ (es : List (ℕ × ℕ)). Contains es (number, at)) (sym is)
+            ((btree_map_get_iff nat_cmp_total exact_unsigned pages ordered number at).0 found));
+      })
 
 -- what is left is one entry and the rest
 first_or_rest : (e x : ℕ × ℕ) (rest : List (ℕ × ℕ)) → Contains (e ∷ rest) x → (e ≡ x) ⊎ Contains rest x
@@ -92,12 +100,15 @@ among_rest e x rest among = Contains-append_right (e ∷ []) rest x among
 among_first : (e : ℕ × ℕ) (rest : List (ℕ × ℕ)) → Contains (e ∷ rest) e
 among_first e rest = Contains-append_left (e ∷ []) rest e (Contains-push [] e)
 
-module _ (pages : BTreeMap ℕ ℕ) (left rest : List (ℕ × ℕ)) (number at : ℕ) (next : left ≡ (number, at) ∷ rest) (are : AreRest pages left) where
+module _ (pages : BTreeMap ℕ ℕ) (left rest : List (ℕ × ℕ)) (number at : ℕ) (next : left ≡ (number, at) ∷ rest)
+    (are : AreRest pages left) where
   pub entry_found : get nat_cmp pages number ≡ Some at
-  entry_found = are number at (subst (λ (es : List (ℕ × ℕ)). Contains es (number, at)) (sym next) (among_first (number, at) rest))
+  entry_found = are number at (subst (λ (es : List (ℕ × ℕ)). Contains es (number, at)) (sym next)
+      (among_first (number, at) rest))
 
   pub rest_next : AreRest pages rest
-  rest_next n a among = are n a (subst (λ (es : List (ℕ × ℕ)). Contains es (n, a)) (sym next) (among_rest (number, at) (n, a) rest among))
+  rest_next n a among = are n a (subst (λ (es : List (ℕ × ℕ)). Contains es (n, a)) (sym next)
+      (among_rest (number, at) (n, a) rest among))
 
   which : (n a : ℕ) → Contains left (n, a) → (number ≡ n) ⊎ Contains rest (n, a)
   which n a among =
@@ -120,7 +131,11 @@ module _ (pages : BTreeMap ℕ ℕ) (left rest : List (ℕ × ℕ)) (number at :
       all = λ n a found copied.
           elim (c.all n a found copied) [
             | inl written ↦ inl written
-            | inr among ↦ elim (which n a among) [ inl same ↦ absurd (not (subst (λ (k : ℕ). IsCopiedNumber size commit k) (sym same) copied)) | inr some ↦ inr some ]
+            | inr among ↦ elim (which n a among) [
+              | inl same ↦ absurd (not (subst (λ (k : ℕ). IsCopiedNumber size commit k) (sym same) copied))
+              | inr
+                  some ↦ inr some
+            ]
           ];
     })
 
@@ -128,15 +143,25 @@ module _ (pages : BTreeMap ℕ ℕ) (left rest : List (ℕ × ℕ)) (number at :
       -- the page that is copied next
       pub copied_next : (old mid now : Told) → GoesOn old mid (Some_ left)
           → GoesOn mid now (WritesPage db wal size number at) → GoesOn old now (Some_ rest)
-      copied_next old mid now goes wrote = goes_on-then old mid now (Some_ left) (WritesPage db wal size number at) (Some_ rest) goes wrote
+      copied_next old mid now goes wrote = goes_on-then old mid now (Some_ left) (WritesPage db wal size number at)
+          (Some_ rest) goes wrote
           (λ x y z c w.
-          let log : bytes_at y wal ≡ bytes_at x wal = ap (λ (es : List Event). bytes_at es wal) c.is ∙ log_kept db wal apart size x c.writes in
+          let log : bytes_at y wal ≡ bytes_at x wal = ap (λ (es : List Event). bytes_at es wal) c.is
+          ∙ log_kept db wal apart size x c.writes in
           let one : Written = record { number = number; bytes = w.bytes } in
           record {
             writes = one ∷ c.writes;
             is = w.is ∙ ap (λ (es : List Event). Wrote db ((number - 1) * size) w.bytes ∷ es) c.is;
             each = (
-              record { copied = copied; at = at; found = entry_found; long = w.long; page = subst (λ (bytes : List ℕ). at + size ≤ length bytes → w.bytes ≡ take size (drop at bytes)) log w.page },
+              record {
+                copied = copied;
+                at = at;
+                found = entry_found;
+                long = w.long;
+                page =
+                    subst (λ (bytes : List ℕ). at + size ≤ length bytes → w.bytes ≡ take size (drop at bytes)) log
+                    w.page;
+              },
               c.each,
             );
             all = λ n a found is.
@@ -149,12 +174,15 @@ module _ (pages : BTreeMap ℕ ℕ) (left rest : List (ℕ × ℕ)) (number at :
       -- or maybe in part
       pub copied_part : (old mid now : Told) → GoesOn old mid (Some_ left)
           → GoesOn mid now (MayWritePage db size number) → GoesOn old now (MayCopyPages db size commit pages)
-      copied_part old mid now goes wrote = goes_on-then old mid now (Some_ left) (MayWritePage db size number) (MayCopyPages db size commit pages) goes wrote
+      copied_part old mid now goes wrote = goes_on-then old mid now (Some_ left) (MayWritePage db size number)
+          (MayCopyPages db size commit pages) goes wrote
           (λ x y z c w. part x y z c w)
         where
           parts : (x y : List Event) (c : Some_ left x y) → EachIs (IsPartOfPage size commit pages) c.writes
-          parts x y c = each_weaker (IsPageOf size commit pages (bytes_at x wal)) (IsPartOfPage size commit pages) c.writes
-              (λ w is. record { copied = is.copied; at = is.at; found = is.found; within = omega (arith, is.long) }) c.each
+          parts x y c = each_weaker (IsPageOf size commit pages (bytes_at x wal)) (IsPartOfPage size commit pages)
+              c.writes
+              (λ w is. record { copied = is.copied; at = is.at; found = is.found; within = omega (arith, is.long) })
+              c.each
 
           part : (x y z : List Event) → Some_ left x y → MayWritePage db size number y z
               → MayCopyPages db size commit pages x z
@@ -172,28 +200,38 @@ module _ (pages : BTreeMap ℕ ℕ) (left rest : List (ℕ × ℕ)) (number at :
       next_within old mid goes x told within =
           let went = goes.told x told in
           let c = went.2 in
-          let log : bytes_at went.0 wal ≡ bytes_at x wal = ap (λ (es : List Event). bytes_at es wal) c.is ∙ log_kept db wal apart size x c.writes in
-          (went.0, went.1, subst (λ (bytes : List ℕ). at + size ≤ length bytes) (sym log) (within number at entry_found))
+          let log : bytes_at went.0 wal ≡ bytes_at x wal = ap (λ (es : List Event). bytes_at es wal) c.is
+          ∙ log_kept db wal apart size x c.writes in (
+            went.0,
+            went.1,
+            subst (λ (bytes : List ℕ). at + size ≤ length bytes) (sym log)
+                (within number at entry_found),
+          )
 
 module _ (db wal : List ℕ) (size commit : ℕ) (pages : BTreeMap ℕ ℕ) (left : List (ℕ × ℕ)) where
   pub there_now : (old mid : Told) → GoesOn old mid (CopiesSome db wal size commit pages left)
       → IfTold old (λ x. IsThere x db) → IfTold mid (λ x. IsThere x db)
-  there_now None mid goes there events told = let none : ◌≡◌ {A = Told} None (Some events) = sym (goes.silent refl) ∙ told in absurd cc
+  there_now None mid goes there events told = let none : ◌≡◌ {A = Told} None (Some events) = sym (goes.silent refl)
+      ∙ told in absurd cc
   there_now (Some x) mid goes there events told =
       let went = goes.told x refl in
       let both : ◌≡◌ {A = Told} (Some went.0) (Some events) = sym went.1 ∙ told in
       let same : went.0 ≡ events = cc in
-      subst (λ (es : List Event). IsThere es db) (sym went.2.is ∙ same) (still_there db size x went.2.writes (there x refl))
+      subst (λ (es : List Event). IsThere es db) (sym went.2.is ∙ same)
+      (still_there db size x went.2.writes (there x refl))
 
   pub copy_ends : (old now : Told) → left ≡ [] → GoesOn old now (CopiesSome db wal size commit pages left)
       → GoesOn old now (CopiesPages db wal size commit pages)
-  copy_ends old now none goes = goes_on-weaker old now (CopiesSome db wal size commit pages left) (CopiesPages db wal size commit pages) goes (λ x y c. record {
-    writes = c.writes;
-    is = c.is;
-    each = c.each;
-    all = λ n a found copied.
-        elim (c.all n a found copied) [
-          | inl written ↦ written
-          | inr among ↦ let empty : Contains [] (n, a) = subst (λ (es : List (ℕ × ℕ)). Contains es (n, a)) none among in absurd (omega (arith, empty.1))
-        ];
-  })
+  copy_ends old now none goes = goes_on-weaker old now (CopiesSome db wal size commit pages left)
+      (CopiesPages db wal size commit pages) goes (λ x y c. record {
+        writes = c.writes;
+        is = c.is;
+        each = c.each;
+        all = λ n a found copied.
+            elim (c.all n a found copied) [
+              | inl written ↦ written
+              | inr among ↦ let empty : Contains [] (n, a) = subst (λ (es : List (ℕ × ℕ)). Contains es (n, a)) none
+                  among
+                  in absurd (omega (arith, empty.1))
+            ];
+      })

@@ -1,5 +1,5 @@
 -- What `backfill` leaves: as read, and in what a crash leaves.
-use Rattle.std.specs.Prelude.{◌≡◌, ◌≢◌, ℕ, ◌*◌, ◌≤◌, max, List, length, Some, Ok, Err, Result}
+use Rattle.std.specs.Prelude.{◌≡◌, ◌≢◌, ℕ, ◌*◌, ◌<◌, ◌≤◌, max, List, length, Some, Ok, Err, Result}
 use Rattle.ls_base.specs.PageSize.{lock_page}
 use Rattle.ls_base.specs.declared.mark.Mark.{Mark}
 use Rattle.crash_disk.specs.declared.event.Event.{Event}
@@ -37,6 +37,9 @@ pub record IsCopied (h : WalHeader) (mark : Mark) (file log now : List ℕ) : Ty
       → file_page h.size now p ≡ page_at_mark h file (valid_frames log) mark p
   pub locked : lock_page h.size ≤ mark.commit
       → file_page h.size now (lock_page h.size) ≡ file_page h.size file (lock_page h.size)
+  -- a page behind the mark's size is as it was, where the mark isn't the last one
+  pub behind : last_mark_of log ≢ Some mark → (p : ℕ) → mark.commit < p
+      → file_page h.size now p ≡ file_page h.size file p
   -- at the last mark the file gets the length of the view; before it, it grows to that, and is never cut
   pub last : last_mark_of log ≡ Some mark → length now ≡ mark.commit * h.size
   pub not_last : last_mark_of log ≢ Some mark → length now ≡ max (length file) (mark.commit * h.size)

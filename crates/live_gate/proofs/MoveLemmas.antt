@@ -199,7 +199,8 @@ module _ (old new : Database) (a : AddsCommit old new) where
         ∙ sym (no_marks old.committed refused.0 refused.1)
   ]
 
-  marks_grown : marks_of new.committed ≡ marks_of old.committed ++ commit_mark a.h (valid_frames old.committed) a.c ∷ []
+  pub marks_grown : marks_of new.committed ≡ marks_of old.committed ++ commit_mark a.h (valid_frames old.committed)
+      a.c ∷ []
   marks_grown =
       marks_are new.committed a.h a.accepted ∙ ap (marks_behind a.h [])
       (sym (valid_is new.committed a.h a.accepted) ∙ a.frames)

@@ -1,12 +1,13 @@
 -- The moves of a writer that keeps to the gate, one by one.
 use Rattle.std.specs.Prelude.{◌≡◌, ◌≢◌, ℕ, ◌-◌, ◌/◌, ◌≤◌, List, [], ◌∷◌, ◌++◌, take, Some, None, Ok}
 use Rattle.ls_base.specs.declared.entry.Entry.{Entry}
+use Rattle.ls_base.specs.declared.mark.Mark.{Mark}
 use Rattle.ls_base.specs.History.{History, state_of}
 use Rattle.wal_frames.specs.declared.header.WalHeader.{WalHeader}
 use Rattle.wal_frames.specs.WalFormat.{read_header}
 use Rattle.wal_frames.specs.WalFrame.{frame_length}
 use Rattle.wal_frames.specs.ValidPrefix.{valid_frames}
-use Rattle.wal_frames.specs.Marks.{committed_part}
+use Rattle.wal_frames.specs.Marks.{IsMark, committed_part}
 use Rattle.wal_frames.specs.View.{frames_page, file_page}
 use Rattle.live_gate.specs.LiveRecord.{Database, IsPrefix}
 use Rattle.live_gate.specs.Legal.{Commit, all_frames, FitsCommit, IsAtRest, IsMarkEnd, IsLegal, last_state}
@@ -65,13 +66,15 @@ pub record PassesAll (old new : Database) : Type 0 where
 abbrev pub frames_before : WalHeader → List (List ℕ) → ℕ → List (List ℕ)
 frames_before h frames end = take ((end - 32) / frame_length h) frames
 
--- Copying into the database file went on up to a mark, and not past the held one. Only pages that stand in frames up to
--- that mark may have changed in the file.
+-- Copying into the database file went on up to a mark, and not past the held one. Of the pages within the size of a
+-- mark
+-- at or past that, only those that stand in frames up to it may have changed in the file.
 pub record CopiesFrames (old new : Database) : Type 0 where
   pub later : old.copied ≤ new.copied
   pub at_mark : IsMarkEnd old.committed new.copied
   pub not_past : (end : ℕ) → old.held ≡ Some end → (end ≢ 0) × (new.copied ≤ end)
-  pub others : (h : WalHeader) (p : ℕ) → read_header old.committed ≡ Ok h
+  pub others : (h : WalHeader) (mark : Mark) (p : ℕ) → read_header old.committed ≡ Ok h → IsMark old.committed mark
+      → new.copied ≤ mark.end → 1 ≤ p → p ≤ mark.commit
       → frames_page p (frames_before h (valid_frames old.committed) new.copied) ≡ None
       → file_page h.size new.file p ≡ file_page h.size old.file p
   pub history : new.history ≡ old.history

@@ -5,6 +5,7 @@ ghost use Rattle.ls_base.specs.Fault.{HasCause};
 ghost use Rattle.live_gate.specs.Cause.{PassHasCause};
 ghost use Rattle.live_gate.specs.LiveRecord.{Told, Attachment, IfTold, GoesOn, is_at_rest};
 ghost use Rattle.live_gate.specs.LiveCalls.{Keeps, found_at, Attaches, Enters, MayAdvance, Advances, Leaves, Passes};
+ghost use Rattle.live_gate.specs.Legal.{IsLegal};
 ghost use Rattle.live_gate.specs.LiveCalls.{GivesHead, GivesDbSize, GivesPage, GivesLogSize, Aims, Reads};
 
 use crate::answer::{Attached, Pass};
@@ -36,7 +37,8 @@ pub trait Live {
 
     /// Names the database and gives up an older hold. `Absent` exactly where there is no such database
     /// file. `at_rest` says that nobody else has the database open, so that a pass may take place. `Memory`
-    /// for want of it. After a fault or `Memory` the older hold is given up or as before.
+    /// for want of it. After a fault or `Memory` the older hold is given up or as before. What is told
+    /// after Ok is legal: its history, its log and its file fit together.
     fn attach(&mut self, alloc: Global, path: &str, at_rest: bool) -> Result<Attached, PassFault>
         ensures ok { OnOk result (attached self.new ≡ Some (record { path = path.now; at_rest = at_rest })) }
         ensures err { OnErr result (attached self.new ≡ attached self.old) }
@@ -45,6 +47,7 @@ pub trait Live {
         ensures there { is_there self.new ≡ is_there self.old }
         ensures content { GoesOn (content self.old path.now) (content self.new path.now) (Attaches result) }
         ensures told { OnErr result (GoesOn (told self.old) (told self.new) (Attaches result)) }
+        ensures legal { OnOk result (IfTold (told self.new) (λ r. IsLegal r.database)) }
         ensures cause { PassHasCause (fault_count self.old) (fault_count self.new) result };
 
     /// Holds the gate at the copied mark.

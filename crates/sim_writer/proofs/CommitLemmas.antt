@@ -164,7 +164,7 @@ module _ (m : Machine) (s : IsSound m) (pages : PagesByNumber) (size : ℕ) (is 
   last_now = last_is grown h ((passed ++ sp.front) ++ sp.final ∷ []) accepted_now under_now
       ∙ rw (last-more h (passed ++ sp.front) sp.final, ne_eqb (commit_size sp.final) 0 commits_now) refl
 
-  known_now : last_mark_of grown ≡ Some (mark_with h (length grown) made.sums size)
+  pub known_now : last_mark_of grown ≡ Some (mark_with h (length grown) made.sums size)
   known_now =
       sym stands_now.taken.is_last ∙ sp.ends
       ∙ ap (λ (x : WalSum). Some (mark_with h (length (base ++ concat fs)) x size)) (sym mk.sums)

@@ -1,27 +1,30 @@
 -- The machine after a commit.
-use Rattle.std.proofs.Common.{◌≡◌, ℕ, List, [], ◌∷◌, ◌++◌, length, drop, Some}
-use Rattle.std.proofs.Common.{None}
-use Rattle.std.proofs.Common.{refl, sym, ap, subst, ◌∙◌, arith}
+use Rattle.std.proofs.Common.{◌≡◌, ℕ, ◌+◌, List, [], ◌∷◌, ◌++◌, length, drop, Some}
+use Rattle.std.proofs.Common.{Option, None}
+use Rattle.std.proofs.Common.{length-append, refl, sym, ap, subst, ◌∙◌, arith}
 use Rattle.std.specs.List.{concat}
 use Rattle.std.specs.FinMap.{keys}
-use Rattle.ls_base.specs.History.{History}
+use Rattle.ls_base.specs.declared.mark.Mark.{Mark}
 use Rattle.ls_base.specs.State.{State}
 use Rattle.ls_sums.specs.declared.wal_sum.WalSum.{WalSum}
 use Rattle.wal_frames.specs.declared.header.WalHeader.{WalHeader}
 use Rattle.wal_frames.specs.WalFormat.{HasSums}
 use Rattle.wal_frames.specs.ValidPrefix.{valid_frames}
+use Rattle.wal_frames.specs.Marks.{marks_of, last_mark_of}
 use Rattle.wal_frames.proofs.AcceptedLemmas.{accepts}
 use Rattle.live_gate.specs.LiveRecord.{Database}
-use Rattle.live_gate.specs.Legal.{last_state}
+use Rattle.live_gate.specs.Legal.{all_frames, commit_mark, last_state}
 use Rattle.live_gate.specs.Moves.{AddsCommit}
-use Rattle.live_gate.proofs.MoveLemmas.{last_state-append, commit_step}
+use Rattle.live_gate.proofs.MoveLemmas.{marks_grown, last_state-append, commit_step}
 use Rattle.sim_writer.specs.declared.commit.Made.{Made}
 use Rattle.sim_writer.specs.declared.machine.Machine.{Machine}
 use Rattle.sim_writer.specs.CommitFrames.{PagesByNumber, IsCommit, commit_frames}
 use Rattle.sim_writer.specs.Commits.{Makes, Puts, Commits, front_of}
-use Rattle.sim_writer.specs.Sound.{IsSound, IsCurrent, StandsAt, database_of, tail_of}
-use Rattle.sim_writer.proofs.CommitLemmas.{c, last_then, stands_now, accepted_now, frames_now, whole_now, state_now}
-use Rattle.sim_writer.proofs.CommitLemmas.{fits_now}
+use Rattle.sim_writer.specs.InFile.{FramesSay, HasFile}
+use Rattle.sim_writer.specs.Sound.{IsSound, StandsAt, database_of, tail_of, state_behind}
+use Rattle.sim_writer.proofs.InFileLemmas.{commit_says, file_grown}
+use Rattle.sim_writer.proofs.CommitLemmas.{c, last_then, sp, stands_now, accepted_now, frames_now, whole_now, known_now}
+use Rattle.sim_writer.proofs.CommitLemmas.{state_now, fits_now}
 use Rattle.sim_writer.proofs.TwinLemmas.{counted_rose, counted_calm}
 
 same_database : (a b : Database) → a.history ≡ b.history → a.committed ≡ b.committed → a.file ≡ b.file
@@ -90,13 +93,39 @@ module _ (m : Machine) (s : IsSound m) (pages : PagesByNumber) (size : ℕ) (is 
     refuses = p.refuses;
   }
 
-  current_then : IsCurrent m.head m.file (valid_frames (m.committed ++ made.bytes))
-      (last_state None (m.history ++ made.entry ∷ []))
-  current_then = record {
-    count = size;
-    is = last_state-append None m.history (made.entry ∷ [])
-        ∙ ap (λ (x : State). Some x) (state_now m s pages size is made mk);
-  }
+  -- the state behind the frames of the log
+  state_then : last_state None n.history ≡ Some (state_behind n.head n.file (valid_frames n.committed) size)
+  state_then =
+      ap (last_state None) p.history ∙ last_state-append None m.history (made.entry ∷ [])
+      ∙ ap (λ (x : State). Some x) (state_now m s pages size is made mk)
+      ∙ ap (λ (b : List ℕ). Some (state_behind m.head m.file (valid_frames b) size)) (sym p.committed)
+      ∙ ap (λ (x : WalHeader). Some (state_behind x m.file (valid_frames n.committed) size)) (sym p.head)
+      ∙ ap (λ (b : List ℕ). Some (state_behind n.head b (valid_frames n.committed) size)) (sym p.file)
+
+  same_mark : (a b : Mark) → ◌≡◌ {A = Option Mark} (Some a) (Some b) → a ≡ b
+  same_mark a b e = cc
+
+  counted_then : (mark : Mark) → last_mark_of n.committed ≡ Some mark → size ≡ mark.commit
+  counted_then mark last = ap (λ (x : Mark). x.commit)
+      (same_mark _ _ (sym (known_now m s pages size is made mk) ∙ ap last_mark_of (sym p.committed) ∙ last))
+
+  one_more : (marks : List Mark) (mark : Mark) → length (marks ++ mark ∷ []) ≡ length marks + 1
+  one_more marks mark = omega (arith, length-append marks (mark ∷ []))
+
+  marks_then : length (marks_of n.committed) ≡ length (marks_of m.committed) + 1
+  marks_then =
+      let grown = marks_grown (database_of m) (database_of n) adds_now in
+      ap length grown ∙ one_more (marks_of m.committed)
+      (commit_mark adds_now.h (valid_frames m.committed) adds_now.c)
+
+  says_then : FramesSay m.head.size (all_frames (c m s pages size is made mk))
+  says_then = subst (λ (fs : List (List ℕ)). FramesSay m.head.size fs) (sp m s pages size is made mk).split
+      (commit_says m.head pages size m.sums is mk.checked)
+
+  files_then : HasFile m.head m.file (m.committed ++ made.bytes) m.copied
+  files_then = file_grown m.head m.file m.committed made.bytes m.copied (all_frames (c m s pages size is made mk))
+      (λ some. (s.stands some).taken.accepted) s.legal.is_copied (frames_now m s pages size is made mk)
+      (accepted_now m s pages size is made mk) says_then s.files
 
   some_now : m.committed ++ made.bytes ≡ [] → ⊥
   some_now none =
@@ -107,13 +136,22 @@ module _ (m : Machine) (s : IsSound m) (pages : PagesByNumber) (size : ℕ) (is 
   sound_done = record {
     legal = (commit_step (database_of m) (database_of n) adds_now).legal s.legal;
     sums = subst HasSums (sym p.head) s.sums;
-    current =
-        subst (λ (x : WalHeader). IsCurrent x n.file (valid_frames n.committed) (last_state None n.history)) (sym
-        p.head)
-        (subst (λ (x : List ℕ). IsCurrent m.head x (valid_frames n.committed) (last_state None n.history)) (sym p.file)
-        (subst (λ (x : List ℕ). IsCurrent m.head m.file (valid_frames x) (last_state None n.history)) (sym p.committed)
-        (subst (λ (x : History). IsCurrent m.head m.file (valid_frames (m.committed ++ made.bytes)) (last_state None x))
-        (sym p.history) current_then)));
+    current = record { count = size; is = state_then };
+    counted = counted_then;
+    numbered = omega (
+      arith,
+      p.before_log,
+      s.numbered,
+      ap length p.history,
+      length-append m.history
+          (made.entry ∷ []),
+      marks_then,
+    );
+    files =
+        subst (λ (x : WalHeader). HasFile x n.file n.committed n.copied) (sym p.head)
+        (subst (λ (x : List ℕ). HasFile m.head x n.committed n.copied) (sym p.file)
+        (subst (λ (x : List ℕ). HasFile m.head m.file x n.copied) (sym p.committed)
+        (subst (λ (x : ℕ). HasFile m.head m.file (m.committed ++ made.bytes) x) (sym p.copied) files_then)));
     last = last_then m s pages size is made mk;
     stands = λ some.
         subst (λ (x : WalHeader). StandsAt x n.sums (last_then m s pages size is made mk) n.committed) (sym p.head)
@@ -122,5 +160,6 @@ module _ (m : Machine) (s : IsSound m) (pages : PagesByNumber) (size : ℕ) (is 
         (stands_now m s pages size is made mk)));
     begun = λ none. absurd (some_now (sym p.committed ∙ none));
     over = p.over;
+    headed = λ _ none. absurd (some_now (sym p.committed ∙ none));
     refuses = p.refuses ∙ s.refuses;
   }

@@ -1,25 +1,39 @@
 -- The database of a file alone.
 use Rattle.std.proofs.Common.{◌≡◌, ℕ, ◌+◌, ◌^◌, ◌≤◌, List, [], ◌∷◌, ◌++◌, length, take, drop}
 use Rattle.std.proofs.Common.{Some, None, true, false}
-use Rattle.std.proofs.Common.{refl, sym, ap, subst, ◌∙◌, inr, append_assoc, arith}
+use Rattle.std.proofs.Common.{refl, sym, ap, subst, ◌∙◌, inr, append_assoc, length-append, arith}
 use Rattle.std.specs.List.{concat, slice_get}
 use Rattle.std.proofs.lemmas.List.{take-append-le}
 use Rattle.std.proofs.lemmas.Option.{slice_get_within}
 use Rattle.std.proofs.Math.Nat.{pow-le-pow_right}
 use Rattle.ls_base.specs.declared.entry.Entry.{Entry}
+use Rattle.ls_base.specs.declared.mark.Mark.{Mark}
 use Rattle.ls_base.specs.PageSize.{IsPageSize}
 use Rattle.ls_base.specs.State.{State, IsState}
 use Rattle.ls_base.specs.History.{HaveOneState, state_of}
 use Rattle.db_page.specs.DatabaseHeader.{IsWalDatabase, page_size_field, page_size_of}
 use Rattle.wal_frames.specs.declared.header.WalHeader.{WalHeader}
-use Rattle.wal_frames.specs.View.{file_pages, view_at_rest, rest_place}
+use Rattle.wal_frames.specs.declared.fault.WalHeaderFault.TheVariants.{Short}
+use Rattle.wal_frames.specs.Marks.{IsMark, marks_of, last_mark_of}
+use Rattle.wal_frames.specs.View.{file_page, file_pages, view_at_rest, rest_place}
+use Rattle.wal_frames.proofs.LogLemmas.{last_is_mark, no_marks}
 use Rattle.wal_frames.proofs.ViewLemmas.{is_rest_view}
+use Rattle.live_gate.proofs.CommitLemmas.{no_log}
 use Rattle.live_gate.specs.Legal.{IsAtRest}
 use Rattle.sim_writer.specs.declared.machine.Machine.{Machine}
 use Rattle.sim_writer.specs.SimState.{IsFirst}
+use Rattle.sim_writer.specs.InFile.{FramesSay}
 use Rattle.sim_writer.specs.Sound.{IsFresh, IsSound, fresh, state_behind}
+use Rattle.sim_writer.proofs.InFileLemmas.{front_is}
 use Rattle.sim_writer.proofs.NumberLemmas.{drop_next}
 use Rattle.sim_writer.proofs.PageLemmas.{no_frames}
+
+-- a log of no bytes has no mark
+pub no_mark : (log : List ℕ) → log ≡ [] → (mark : Mark) → IsMark log mark → ⊥
+no_mark log none mark is = absurd (omega (arith, is.1, ap length (ap marks_of none ∙ no_marks [] Short no_log)))
+
+pub no_last : (log : List ℕ) → log ≡ [] → (mark : Mark) → last_mark_of log ≡ Some mark → ⊥
+no_last log none mark some = no_mark log none mark (last_is_mark log mark some)
 
 module _ (h : WalHeader) (file : List ℕ) (e : Entry) (f : IsFresh h file e) where
   at_rest : IsAtRest (e ∷ []) [] file 0
@@ -47,6 +61,14 @@ module _ (h : WalHeader) (file : List ℕ) (e : Entry) (f : IsFresh h file e) wh
       let alike : a ≡ b = cc in
       ap state_of alike
 
+  none_at_rest : marks_of [] ≡ []
+  none_at_rest = no_marks [] Short no_log
+
+  front : take 100 (file_page h.size file 1) ≡ take 100 file
+  front =
+      let least : 2 ^ 9 ≤ 2 ^ f.page_size.0 = pow-le-pow_right (omega arith) f.page_size.1 in
+      front_is h.size file (omega (arith, f.page_size.3, least)) (omega (arith, f.long))
+
   pub fresh_sound : IsSound (fresh h file e)
   fresh_sound = record {
     legal = record {
@@ -62,10 +84,19 @@ module _ (h : WalHeader) (file : List ℕ) (e : Entry) (f : IsFresh h file e) wh
           ∙ ap (λ (fs : List (List ℕ)). Some (state_behind h file fs (file_pages h.size file))) (sym (no_frames []
           refl));
     };
+    counted = λ mark some. absurd (no_last [] refl mark some);
+    numbered = omega (arith, ap length none_at_rest);
+    files = record {
+      says = λ is. ap (λ (b : List ℕ). page_size_of (page_size_field b)) front
+          ∙ f.says (subst IsWalDatabase front is);
+      frames_say = subst (λ (fs : List (List ℕ)). FramesSay h.size fs) (sym (no_frames [] refl)) tt;
+      stands = λ mark is _. absurd (no_mark [] refl mark is);
+    };
     last = None;
     stands = λ some. absurd (some refl);
     begun = λ _. refl;
     over = omega arith;
+    headed = λ headed. absurd cc;
     refuses = refl;
   }
 
@@ -73,10 +104,12 @@ module _ (h : WalHeader) (file : List ℕ) (e : Entry) (f : IsFresh h file e) wh
 abbrev pub made : WalHeader → List ℕ → List Entry → List ℕ → List ℕ → Machine
 made h file history committed tail = record {
   history = history;
+  before_log = 0;
   file = file;
   committed = committed;
   tail = tail;
   over = 0;
+  headed = false;
   head = h;
   sums = record { s0 = h.s0; s1 = h.s1 };
   copied = 0;
@@ -91,6 +124,12 @@ pub made_is : (h : WalHeader) (file : List ℕ) (e : Entry) (history : List Entr
 made_is h file e history committed tail p q r = λ i. made h file (p i) (q i) (r i)
 
 -- ---- the first pages
+
+pub first_long : (size : ℕ) (pages : List (List ℕ)) → IsPageSize size → IsFirst size pages → 512 ≤ length (concat pages)
+first_long size [] is first = absurd (first.some refl)
+first_long size (page ∷ pages) is first =
+    let least : 2 ^ 9 ≤ 2 ^ is.0 = pow-le-pow_right (omega arith) is.1 in
+    omega (arith, first.sized.0, is.3, least, length-append page (concat pages))
 
 -- the file of these pages says no other page size
 pub first_says : (size : ℕ) (pages : List (List ℕ)) → IsPageSize size → IsFirst size pages

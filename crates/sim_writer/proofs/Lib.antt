@@ -4,11 +4,16 @@ pub mod FrameLemmas
 pub mod StandLemmas
 pub mod PageLemmas
 pub mod PutLemmas
-pub mod TwinLemmas
+pub mod InFileLemmas
+pub mod LooseLemmas
+mod TwinLemmas
 pub mod SplitLemmas
 pub mod CommitLemmas
 pub mod DoneLemmas
 pub mod PassingLemmas
 pub mod FreshLemmas
+pub mod EntryLemmas
+pub mod DiskLemmas
+pub mod CopyLemmas
 pub mod LiveLemmas
 pub mod ReadCallLemmas

@@ -10,6 +10,7 @@ use Rattle.ls_base.specs.declared.place.Place.{Place}
 use Rattle.live_gate.specs.LiveRecord.{Database, LiveRecord, Asked, GoesOn}
 use Rattle.live_gate.specs.Legal.{IsLegal, IsHeld, IsMarkEnd, MayBeHeld}
 use Rattle.live_gate.specs.Step.{IsWriterStep, IsStepButHold}
+use Rattle.live_gate.specs.Moves.{CopiesFrames}
 use Rattle.live_gate.specs.Coincidence.{AddsNoTwins, CountsTwins}
 use Rattle.live_gate.specs.declared.answer.Attached.{Attached}
 use Rattle.live_gate.specs.declared.answer.Pass.TheVariants.{Kept}
@@ -69,10 +70,14 @@ sound_held m held stopped s may = record {
   legal = legal_held (database_of m) held stopped may s.legal;
   sums = s.sums;
   current = s.current;
+  counted = s.counted;
+  numbered = s.numbered;
+  files = s.files;
   last = s.last;
   stands = s.stands;
   begun = s.begun;
   over = s.over;
+  headed = s.headed;
   refuses = s.refuses;
 }
 
@@ -322,3 +327,10 @@ module _ (s : SimState) where
 -- a call that goes on finds the machine running
 pub runs_now : {s t n : SimState} → t ≡ s → Goes false s n → t.machine.stopped ≡ false
 runs_now same goes = ap (λ (x : SimState). x.machine.stopped) same ∙ goes.runs refl
+
+-- copying adds no entry
+pub twins_copied : (old new : Database) → CopiesFrames old new → CountsTwins old new
+twins_copied old new copies = record {
+  rose = inr (subst (AddsNoTwins old.history) (sym copies.history) (no_twins old.history));
+  calm = λ _. copies.chances;
+}

@@ -124,10 +124,14 @@ sound_noted m n s later = record {
   };
   sums = s.sums;
   current = s.current;
+  counted = s.counted;
+  numbered = s.numbered;
+  files = s.files;
   last = s.last;
   stands = s.stands;
   begun = s.begun;
   over = s.over;
+  headed = s.headed;
   refuses = s.refuses;
 }
 

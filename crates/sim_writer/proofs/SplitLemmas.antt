@@ -111,7 +111,7 @@ module _ (h : WalHeader) (m : PagesByNumber) (size : ℕ) (some : size ≢ 0) wh
 
 -- ---- the page of a number
 
-page_of_frame : (h : WalHeader) (s : WalSum) (n commit : ℕ) (page : List ℕ)
+pub page_of_frame : (h : WalHeader) (s : WalSum) (n commit : ℕ) (page : List ℕ)
     → frame_page (frame_bytes h s n commit page) ≡ page
 unfolding frame_bytes
 page_of_frame h s n commit page = refl

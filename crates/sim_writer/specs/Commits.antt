@@ -1,5 +1,5 @@
 -- What a commit does.
-use Rattle.std.specs.Prelude.{◌≡◌, ℕ, ◌+◌, ◌≤◌, ◌⊎◌, min, ◌-◌, ◌^◌, List, [], ◌∷◌, ◌++◌, length, drop, map, Ok}
+use Rattle.std.specs.Prelude.{true, ◌≡◌, ℕ, ◌+◌, ◌≤◌, ◌⊎◌, min, ◌-◌, ◌^◌, List, [], ◌∷◌, ◌++◌, length, drop, map, Ok}
 use Rattle.std.specs.Prelude.{unwrap_or}
 use Rattle.std.specs.List.{concat, range_with_len}
 use Rattle.std.specs.Option.{option_or}
@@ -58,12 +58,14 @@ pub record Puts (made : Made) (old new : Machine) : Type 0 where
   pub twins : (HasNoTwin old.history made.entry × (new.chances ≡ old.chances))
       ⊎ (HasTwin old.history made.entry × (new.chances ≡ counted old.chances))
   pub later : old.chances ≤ new.chances
+  pub before_log : new.before_log ≡ old.before_log
   pub file : new.file ≡ old.file
   pub head : new.head ≡ old.head
   pub copied : new.copied ≡ old.copied
   pub held : new.held ≡ old.held
   pub refuses : new.refuses ≡ old.refuses
   pub over : new.over ≤ length new.tail
+  pub headed : new.headed ≡ true
   pub stopped : new.stopped ≡ old.stopped
 
 -- One commit more: the frames of the pages in the order of their numbers, behind the committed part or behind the

@@ -1,6 +1,8 @@
 pub mod Twins
 pub mod CommitFrames
+pub mod InFile
 pub mod Sound
+pub mod Copying
 pub mod Commits
 pub mod Passing
 pub mod Reading

@@ -12,10 +12,11 @@ use Rattle.live_gate.specs.Coincidence.{CountsTwins}
 use Rattle.ls_base.specs.declared.entry.Entry.{Entry}
 use Rattle.wal_frames.specs.declared.header.WalHeader.{WalHeader}
 use Rattle.sim_writer.specs.declared.act.Act.{Act}
-use Rattle.sim_writer.specs.declared.act.Act.TheVariants.{Commit, Loose, Fault}
+use Rattle.sim_writer.specs.declared.act.Act.TheVariants.{Commit, Loose, Backfill, Fault}
 use Rattle.sim_writer.specs.declared.machine.Machine.{Machine}
 use Rattle.sim_writer.specs.CommitFrames.{SaysSize, IsCommit}
 use Rattle.sim_writer.specs.Commits.{Commits, counted}
+use Rattle.sim_writer.specs.Copying.{CanBackfill, Backfills}
 use Rattle.sim_writer.specs.Loose.{PutsLoose}
 use Rattle.sim_writer.specs.Questions.{nothing_asked}
 use Rattle.sim_writer.specs.Sound.{database_of, fresh}
@@ -69,6 +70,7 @@ pub record Begins (name : List ℕ) (size : ℕ) (order : Order) (salts : ℕ ×
 abbrev pub IsLegalAct : Act → SimState → Type 0
 IsLegalAct (Commit pages size) s = IsCommit s.machine.head.size pages size
 IsLegalAct (Loose bytes) s = Unit {0}
+IsLegalAct (Backfill mark) s = CanBackfill mark s.machine
 IsLegalAct Fault s = Unit {0}
 
 -- what it does
@@ -76,6 +78,8 @@ abbrev pub Does : Act → SimState → SimState → Type 0
 Does (Commit pages size) old new =
     Commits pages size old.machine new.machine × (new ≡ record old { machine = new.machine })
 Does (Loose bytes) old new = PutsLoose bytes old.machine new.machine × (new ≡ record old { machine = new.machine })
+Does (Backfill mark) old new =
+    Backfills mark old.machine new.machine × (new ≡ record old { machine = new.machine })
 Does Fault old new = new ≡ record old { fails = true }
 
 -- It is done exactly where it is legal; else it is counted, and nothing else changes.

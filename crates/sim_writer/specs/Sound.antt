@@ -1,5 +1,6 @@
 -- What the writer's database and log always are.
-use Rattle.std.specs.Prelude.{◌≡◌, ◌≢◌, ℕ, ◌-◌, ◌≤◌, List, [], ◌∷◌, ◌++◌, length, take, drop, map, Option, Some, None}
+use Rattle.std.specs.Prelude.{◌≡◌, ◌≢◌, ℕ, ◌+◌, ◌-◌, ◌≤◌, List, [], ◌∷◌, ◌++◌, length, take, drop, map, Option, Some}
+use Rattle.std.specs.Prelude.{None}
 use Rattle.std.specs.Prelude.{true, false, unwrap_or}
 use Rattle.std.specs.List.{range_with_len}
 use Rattle.ls_base.specs.declared.mark.Mark.{Mark}
@@ -12,11 +13,13 @@ use Rattle.ls_sums.specs.declared.wal_sum.WalSum.{WalSum}
 use Rattle.wal_frames.specs.declared.header.WalHeader.{WalHeader}
 use Rattle.wal_frames.specs.WalFormat.{HasSums}
 use Rattle.wal_frames.specs.ValidPrefix.{valid_frames}
+use Rattle.wal_frames.specs.Marks.{marks_of, last_mark_of}
 use Rattle.wal_frames.specs.View.{frames_page, file_page, unless_locked, view_at_rest, rest_place}
 use Rattle.wal_frames.specs.Scanned.{Scanned, HasTaken}
 use Rattle.live_gate.specs.LiveRecord.{Database}
 use Rattle.live_gate.specs.Legal.{IsLegal, last_state}
 use Rattle.sim_writer.specs.declared.machine.Machine.{Machine}
+use Rattle.sim_writer.specs.InFile.{HasFile}
 
 -- what is told of the database
 abbrev pub database_of : Machine → Database
@@ -72,16 +75,22 @@ pub record IsCurrent (h : WalHeader) (file : List ℕ) (frames : List (List ℕ)
   pub count : ℕ
   pub is : state ≡ Some (state_behind h file frames count)
 
--- The database is legal, and its last state is that of its two files. The header is the log's, or that of the log which
--- the next commit begins; the sums are those at the end of the committed part.
+-- The database is legal, and its last state is that of its two files, with as many pages as the last mark says. Behind
+-- `before_log` the history has an entry for each mark. The
+-- header is the log's, or that of the log which the next commit begins; the sums are those at the end of the committed
+-- part. A log that begins with its header has that behind no mark.
 pub record IsSound (m : Machine) : Type 0 where
   pub legal : IsLegal (database_of m)
   pub sums : HasSums m.head
   pub current : IsCurrent m.head m.file (valid_frames m.committed) (last_state None m.history)
+  pub counted : (mark : Mark) → last_mark_of m.committed ≡ Some mark → current.count ≡ mark.commit
+  pub numbered : m.before_log + 1 + length (marks_of m.committed) ≡ length m.history
+  pub files : HasFile m.head m.file m.committed m.copied
   pub last : Option Mark
   pub stands : m.committed ≢ [] → StandsAt m.head m.sums last m.committed
   pub begun : m.committed ≡ [] → m.sums ≡ record { s0 = m.head.s0; s1 = m.head.s1 }
   pub over : m.over ≤ length m.tail
+  pub headed : m.headed ≡ true → m.committed ≡ [] → 32 ≤ length (tail_of m)
   -- it refuses each pass
   pub refuses : m.refuses ≡ true
 
@@ -91,10 +100,12 @@ pub record IsSound (m : Machine) : Type 0 where
 abbrev pub fresh : WalHeader → List ℕ → Entry → Machine
 fresh h file entry = record {
   history = entry ∷ [];
+  before_log = 0;
   file = file;
   committed = [];
   tail = [];
   over = 0;
+  headed = false;
   head = h;
   sums = record { s0 = h.s0; s1 = h.s1 };
   copied = 0;
@@ -111,4 +122,5 @@ pub record IsFresh (h : WalHeader) (file : List ℕ) (entry : Entry) : Type 0 wh
   pub size : entry.size ≡ h.size
   pub state : state_of entry ≡ view_at_rest h.size file
   pub place : entry.place ≡ rest_place h.size file
+  pub long : 512 ≤ length file
   pub says : IsWalDatabase (take 100 file) → page_size_of (page_size_field (take 100 file)) ≡ h.size

@@ -105,6 +105,7 @@ impl Machine {
         }
         let tail = self.tail.as_slice().len();
         self.over = self.over.saturating_add(written.len()).min(tail);
+        self.headed = true;
         self.sums = sums;
         self.chances = count_if(self.chances, twin);
         Ok(())

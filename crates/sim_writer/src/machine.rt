@@ -1,6 +1,8 @@
 //! The database and its log, as the writer has them.
 
-ghost use Rattle.std.specs.Prelude.{◌≡◌, OnOk, IfOk};
+ghost use Rattle.std.specs.Prelude.{◌≡◌, ◌+◌, OnOk, IfOk};
+ghost use Rattle.std.specs.Prelude.{option_copied};
+ghost use Rattle.std.specs.List.{slice_get};
 ghost use Rattle.sim_writer.specs.Sound.{IsFresh, IsSound, fresh};
 
 use crate::history::History;
@@ -13,11 +15,15 @@ use wal_frames::WalHeader;
 #[derive(Debug, Drop)]
 pub(crate) struct Machine {
     pub(crate) history: History,
+    // The place in the history of the entry before those of the log's commits.
+    pub(crate) before_log: usize,
     pub(crate) file: Bytes,
     // The log up to its last mark, and what stands behind, of which the first bytes were written over.
     pub(crate) committed: Bytes,
     pub(crate) tail: Bytes,
     pub(crate) over: usize,
+    // Whether the log begins with its header.
+    pub(crate) headed: bool,
     // The header of the log, or of the one that the next commit begins, and the running sums where it ends.
     pub(crate) head: WalHeader,
     pub(crate) sums: WalSum,
@@ -45,10 +51,12 @@ impl Machine {
         history.push(entry)?;
         Ok(Machine {
             history,
+            before_log: 0,
             file,
             committed: Bytes::new(alloc),
             tail: Bytes::new(alloc),
             over: 0,
+            headed: false,
             head,
             sums: WalSum {
                 s0: head.s0,
@@ -60,5 +68,16 @@ impl Machine {
             stopped: false,
             chances: 0,
         })
+    }
+    /// The entry of the mark of this number, from 1, or the one before those for 0.
+    pub(crate) fn entry_of(&self, number: u32) -> Option<&Entry>
+        requires sound { IsSound self.now }
+        ensures { option_copied result ≡ slice_get self.now.history (self.now.before_log + number) }
+    {
+        let after = self.history.len() - self.before_log;
+        if number as usize >= after {
+            return None;
+        }
+        self.history.get(self.before_log + number as usize)
     }
 }

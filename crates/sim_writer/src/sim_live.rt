@@ -2,7 +2,7 @@
 
 ghost use Rattle.std.specs.Prelude.{◌≡◌, IfOk};
 ghost use Rattle.std.specs.List.{concat};
-ghost use Rattle.sim_writer.specs.declared.act.Act.TheVariants.{Commit};
+ghost use Rattle.sim_writer.specs.declared.act.Act.TheVariants.{Commit, Backfill};
 ghost use Rattle.sim_writer.specs.SimState.{ActsAs, IsFirst, Begins};
 
 use crate::act::Act;
@@ -105,6 +105,7 @@ impl SimLive {
                 self.machine.put_loose(bytes.as_slice())?;
                 Ok(true)
             }
+            Act::Backfill { mark } => self.backfill(mark),
             Act::Fault => {
                 self.fails = true;
                 Ok(true)
@@ -122,6 +123,17 @@ impl SimLive {
         }
         self.machine.commit(self.alloc, pages, size)?;
         Ok(true)
+    }
+
+    /// Copies the frames up to the mark of this number where that may be.
+    fn backfill(&mut self, mark: u32) -> Result<bool, Memory>
+        ensures { ActsAs (Backfill mark) result self.old self.new }
+    {
+        if self.machine.backfill(self.alloc, mark)? {
+            return Ok(true);
+        }
+        self.skipped = count_if(self.skipped, true);
+        Ok(false)
     }
 
     /// The states that the database had, in the order in which they came.

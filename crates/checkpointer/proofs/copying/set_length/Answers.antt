@@ -12,8 +12,10 @@ returns-in-Ok-clause-ok g c =
       | else-bytes-now-via-then-bytes-now+else-not-may_shrink w ↦ inl (grind (arith, w.if-not-may_shrink.false))
       | else-bytes-now-via-else-bytes-now w ↦ inr (omega (arith, w.if-bytes-now.false))
     ] in
-    length_set (g.D.Disk.told c.args.disk.now) (g.D.Disk.told c.size.new.self) (g.D.Disk.told c.cut.new.self) c.args.db.now c.args.bytes c.unwrap_or-now.result c.args.may_shrink c.in_ok-size.ensures.unchanged
-    (λ x told. c.unwrap_or-now.ensures ∙ size_is (file_at x c.args.db.now) c.in_ok-size.field-0 (c.in_ok-size.ensures.value x told)) allowed c.in-Ok.ensures.ok
+    length_set (g.D.Disk.told c.args.disk.now) (g.D.Disk.told c.size.new.self) (g.D.Disk.told c.cut.new.self)
+    c.args.db.now c.args.bytes c.unwrap_or-now.result c.args.may_shrink c.in_ok-size.ensures.unchanged
+    (λ x told. c.unwrap_or-now.ensures ∙ size_is (file_at x c.args.db.now) c.in_ok-size.field-0
+    (c.in_ok-size.ensures.value x told)) allowed c.in-Ok.ensures.ok
 
 pub returns-in-Err-clause-err : goal.returns-in-Err-clause-err
 returns-in-Err-clause-err g c =
@@ -21,5 +23,7 @@ returns-in-Err-clause-err g c =
       | else-bytes-now-via-then-bytes-now+else-not-may_shrink w ↦ inl (grind (arith, w.if-not-may_shrink.false))
       | else-bytes-now-via-else-bytes-now w ↦ inr (omega (arith, w.if-bytes-now.false))
     ] in
-    length_maybe (g.D.Disk.told c.args.disk.now) (g.D.Disk.told c.size.new.self) (g.D.Disk.told c.cut.new.self) c.args.db.now c.args.bytes c.unwrap_or-now.result c.args.may_shrink c.in_ok-size.ensures.unchanged
-    (λ x told. c.unwrap_or-now.ensures ∙ size_is (file_at x c.args.db.now) c.in_ok-size.field-0 (c.in_ok-size.ensures.value x told)) allowed c.in-Err.ensures.err
+    length_maybe (g.D.Disk.told c.args.disk.now) (g.D.Disk.told c.size.new.self) (g.D.Disk.told c.cut.new.self)
+    c.args.db.now c.args.bytes c.unwrap_or-now.result c.args.may_shrink c.in_ok-size.ensures.unchanged
+    (λ x told. c.unwrap_or-now.ensures ∙ size_is (file_at x c.args.db.now) c.in_ok-size.field-0
+    (c.in_ok-size.ensures.value x told)) allowed c.in-Err.ensures.err

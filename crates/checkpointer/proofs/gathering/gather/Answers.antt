@@ -25,15 +25,21 @@ loop-taken-preserved c =
     record {
       rest_is = rest_next bytes rest c.in-Frame.taken i.rest_is i.short fed.1;
       short = short_next bytes rest c.in-Frame.taken i.short;
-      taken = taken_next bytes rest c.in-Frame.taken c.feed.new.self.taken c.loop-taken.scan.taken c.args.scan.now.taken fed.1 fed.2 i.taken;
+      taken = taken_next bytes rest c.in-Frame.taken c.feed.new.self.taken c.loop-taken.scan.taken
+          c.args.scan.now.taken fed.1 fed.2 i.taken;
       head = c.in-Frame.ensures.head ∙ i.head;
-      value = λ log t. subst (λ (xs : List ℕ). HasGathered xs c.feed.new.self c.insert.new.self) (done_next log bytes rest c.in-Frame.taken i.rest_is i.short fed.1)
+      value = λ log t. subst (λ (xs : List ℕ). HasGathered xs c.feed.new.self c.insert.new.self)
+          (done_next log bytes rest c.in-Frame.taken i.rest_is i.short fed.1)
           (
           let so_far = i.value log t in
           let now = fed.3 (log ++ take (length bytes - length rest) bytes) so_far.taken in
-          gather_more (log ++ take (length bytes - length rest) bytes) (take c.in-Frame.taken rest) c.loop-taken.scan c.feed.new.self c.in-Frame.ensures.head c.in-Frame.number c.in-Frame.commit c.in-Frame.end now.0 now.1 c.in-Frame.ensures.end
+          gather_more (log ++ take (length bytes - length rest) bytes) (take c.in-Frame.taken rest) c.loop-taken.scan
+          c.feed.new.self c.in-Frame.ensures.head c.in-Frame.number c.in-Frame.commit c.in-Frame.end now.0 now.1
+          c.in-Frame.ensures.end
           c.loop-taken.pages c.insert.new.self c.saturating_sub.result so_far c.in_ok-insert.ensures.updates
-          (c.saturating_sub.ensures ∙ ap (λ (n : ℕ). c.in-Frame.end - n) (c.from.ensures ∙ c.requires.size ∙ ap (λ (h : WalHeader). h.size) (sym (c.in-Frame.ensures.head ∙ i.head))))
+          (c.saturating_sub.ensures ∙ ap (λ (n : ℕ). c.in-Frame.end - n)
+          (c.from.ensures ∙ c.requires.size ∙ ap (λ (h : WalHeader). h.size)
+          (sym (c.in-Frame.ensures.head ∙ i.head))))
           );
     }
 
@@ -47,4 +53,6 @@ returns-clause-value c log t =
     let fed = c.in_default.ensures.value in
     let now = fed.1 front so_far.taken in
     let whole : front ++ rest ≡ log ++ bytes = all_done log bytes rest i.rest_is in
-    subst (λ (xs : List ℕ). HasGathered xs c.feed.new.self c.loop-taken.pages) whole (gather_none front rest c.loop-taken.scan c.feed.new.self c.in_default.ensures.head c.loop-taken.pages so_far now.0 now.1)
+    subst (λ (xs : List ℕ). HasGathered xs c.feed.new.self c.loop-taken.pages) whole
+    (gather_none front rest c.loop-taken.scan c.feed.new.self c.in_default.ensures.head c.loop-taken.pages so_far
+    now.0 now.1)

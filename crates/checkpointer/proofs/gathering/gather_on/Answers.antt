@@ -15,7 +15,8 @@ loop-at-preserved g c = record {
       let log = bytes_at events c.args.wal.now in
       let so_far = c.loop-at.invariant.value events told within begun in
       let piece = c.in-Ok.ensures.piece events (c.loop-at.invariant.unchanged ∙ told) in
-      subst (λ (xs : List ℕ). HasGathered xs c.gather.new.scan c.gather.new.pages) (take_next log c.next_piece.new.buffer c.loop-at.at c.in-Ok.count piece.bytes)
+      subst (λ (xs : List ℕ). HasGathered xs c.gather.new.scan c.gather.new.pages)
+      (take_next log c.next_piece.new.buffer c.loop-at.at c.in-Ok.count piece.bytes)
       (c.in-Ok-gather.ensures.value (take c.loop-at.at log) so_far);
   head = c.in-Ok-gather.ensures.head ∙ c.loop-at.invariant.head;
   unchanged = c.in-Ok.ensures.unchanged ∙ c.loop-at.invariant.unchanged;

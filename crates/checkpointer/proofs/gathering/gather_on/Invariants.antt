@@ -8,7 +8,9 @@ abbrev pub invariant-loop-at : goal.invariant-loop-at
 invariant-loop-at g l = record {
   stands : l.scan.taken + 32 ≡ l.at;
   within : l.at ≤ l.end;
-  value : IfTold (g.D.Disk.told l.fn.disk) (λ events. l.end ≤ length (bytes_at events l.wal) → HasGathered (take 32 (bytes_at events l.wal)) l.fn.scan l.fn.pages
+  value : IfTold (g.D.Disk.told l.fn.disk)
+      (λ events. l.end ≤ length (bytes_at events l.wal) → HasGathered (take 32 (bytes_at events l.wal)) l.fn.scan
+      l.fn.pages
       → HasGathered (take l.at (bytes_at events l.wal)) l.scan l.pages);
   head : l.scan.head ≡ l.fn.scan.head;
   unchanged : g.D.Disk.told l.disk ≡ g.D.Disk.told l.fn.disk;

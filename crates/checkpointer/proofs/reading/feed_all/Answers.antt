@@ -23,7 +23,10 @@ loop-taken-preserved c =
     record {
       rest_is = rest_next bytes rest c.in-Frame.taken i.rest_is i.short fed.1;
       short = short_next bytes rest c.in-Frame.taken i.short;
-      taken = taken_next bytes rest c.in-Frame.taken c.feed.new.self.taken c.loop-taken.scan.taken c.args.scan.now.taken fed.1 fed.2 i.taken;
+      taken = taken_next bytes rest c.in-Frame.taken c.feed.new.self.taken c.loop-taken.scan.taken
+          c.args.scan.now.taken fed.1 fed.2 i.taken;
       head = c.in-Frame.ensures.head ∙ i.head;
-      value = λ log t. subst (λ (xs : List ℕ). HasTaken c.feed.new.self xs) (done_next log bytes rest c.in-Frame.taken i.rest_is i.short fed.1) (fed.3 (log ++ take (length bytes - length rest) bytes) (i.value log t)).0;
+      value = λ log t. subst (λ (xs : List ℕ). HasTaken c.feed.new.self xs)
+          (done_next log bytes rest c.in-Frame.taken i.rest_is i.short fed.1)
+          (fed.3 (log ++ take (length bytes - length rest) bytes) (i.value log t)).0;
     }

@@ -15,7 +15,9 @@ loop-at-preserved g c = record {
       let so_far = c.loop-at.invariant.value events told from within started in
       let piece = c.in_ok-count.ensures.piece events (c.loop-at.invariant.unchanged ∙ told) in (
         c.in_ok-count.ensures.bound.1,
-        subst (λ (xs : List ℕ). HasTaken c.feed_all.new.scan xs) (take_next log c.next_piece.new.buffer c.loop-at.at c.in_ok-count.count piece.bytes) (c.feed_all.ensures.value (take c.loop-at.at log) so_far.1),
+        subst (λ (xs : List ℕ). HasTaken c.feed_all.new.scan xs)
+            (take_next log c.next_piece.new.buffer c.loop-at.at c.in_ok-count.count piece.bytes)
+            (c.feed_all.ensures.value (take c.loop-at.at log) so_far.1),
       );
   head = c.feed_all.ensures.head ∙ c.loop-at.invariant.head;
   unchanged = c.in_ok-count.ensures.unchanged ∙ c.loop-at.invariant.unchanged;

@@ -7,7 +7,9 @@ use Rattle.checkpointer.proofs.reading.scan_on.Given as goal
 abbrev pub invariant-loop-at : goal.invariant-loop-at
 invariant-loop-at g l = record {
   stands : l.scan.taken + 32 ≡ l.at;
-  value : IfTold (g.D.Disk.told l.fn.disk) (λ events. l.from ≤ l.end → l.end ≤ length (bytes_at events l.wal) → HasTaken l.fn.scan (take l.from (bytes_at events l.wal))
+  value : IfTold (g.D.Disk.told l.fn.disk)
+      (λ events. l.from ≤ l.end → l.end ≤ length (bytes_at events l.wal)
+      → HasTaken l.fn.scan (take l.from (bytes_at events l.wal))
       → (l.at ≤ l.end) × HasTaken l.scan (take l.at (bytes_at events l.wal)));
   head : l.scan.head ≡ l.fn.scan.head;
   unchanged : g.D.Disk.told l.disk ≡ g.D.Disk.told l.fn.disk;

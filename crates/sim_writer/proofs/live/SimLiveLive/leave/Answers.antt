@@ -1,8 +1,14 @@
-use Rattle.std.proofs.Common.{◌∙◌}
+use Rattle.std.proofs.Common.{None, ◌∙◌}
 use Rattle.live_gate.proofs.StillLemmas.{goes_on}
 use Rattle.sim_writer.specs.contracts.sim_live.SimLive.{the_view}
 use Rattle.sim_writer.proofs.LiveLemmas as calls
 use Rattle.sim_writer.proofs.live.SimLiveLive.leave.Goals as goal
+
+pub invariant_of-self : goal.invariant_of-self
+invariant_of-self c =
+    let m = c.self.inside.machine in
+    calls.sound_held m None m.stopped c.self.invariant
+    (calls.free_is_held m.committed m.copied)
 
 pub returns-then-begin_fails-clause-told : goal.returns-then-begin_fails-clause-told
 returns-then-begin_fails-clause-told c =

@@ -14,11 +14,13 @@ returns-clause-ok c = record {
   twins = twins_by _ _ c.has_twin-twin.result _ _ c.has_twin-twin.ensures.some c.has_twin-twin.ensures.none
       (search rules);
   later = search rules;
+  before_log = search rules;
   file = search rules;
   head = search rules;
   copied = search rules;
   held = search rules;
   refuses = search rules;
   over = search rules;
+  headed = search rules;
   stopped = search rules;
 }

@@ -1,9 +1,9 @@
-use Rattle.std.proofs.Common.{ℕ, ◌++◌, List, None, false, sym, ap, subst, ◌∙◌}
+use Rattle.std.proofs.Common.{ℕ, ◌≤◌, ◌++◌, List, length, None, false, sym, ap, subst, ◌∙◌}
 use Rattle.ls_base.specs.PageSize.{IsPageSize}
 use Rattle.wal_frames.specs.View.{view_at_rest, rest_place}
 use Rattle.sim_writer.specs.CommitFrames.{SaysSize}
 use Rattle.sim_writer.specs.Sound.{fresh}
-use Rattle.sim_writer.proofs.FreshLemmas.{first_says}
+use Rattle.sim_writer.proofs.FreshLemmas.{first_long, first_says}
 use Rattle.sim_writer.proofs.sim_live.SimLive.new.Goals as goal
 
 pub fresh-requires : goal.fresh-requires
@@ -21,6 +21,8 @@ fresh-requires c =
         size = entry.size ∙ same;
         state = entry.state ∙ ap (λ (b : List ℕ). view_at_rest size b) bytes ∙ ap (λ (n : ℕ). view_at_rest n file) same;
         place = entry.place ∙ ap (λ (b : List ℕ). rest_place size b) bytes ∙ ap (λ (n : ℕ). rest_place n file) same;
+        long = subst (λ (b : List ℕ). 512 ≤ length b) (sym c.in_ok-file.ensures)
+            (first_long size c.args.first.now entry.page_size c.requires.first);
         says = subst (λ (n : ℕ). SaysSize n file) same (subst (λ (b : List ℕ). SaysSize size b) (sym
             c.in_ok-file.ensures) says);
       };
