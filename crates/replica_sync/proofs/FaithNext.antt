@@ -1,5 +1,6 @@
 -- The stored file is the next one of the replica.
-use Rattle.std.proofs.Common.{◌≡◌, ℕ, ◌+◌, ◌≤◌, false, List, [], ◌∷◌, ◌++◌, length, Some, Ok, refl, sym, ap, subst, ◌∙◌, inl, inr, ⊎_elim, length-append, arith}
+use Rattle.std.proofs.Common.{◌≡◌, ℕ, ◌+◌, ◌≤◌, false, List, [], ◌∷◌, ◌++◌, length, Some, Ok, refl, sym, ap, subst, ◌∙◌}
+use Rattle.std.proofs.Common.{inl, inr, ⊎_elim, length-append, arith}
 use Rattle.std.specs.Prelude.{◌⊎◌, ◌≢◌, IsSome, is_some}
 use Rattle.std.specs.List.{AllByRecursion}
 use Rattle.crash_disk.specs.declared.event.Event.{Event}
@@ -42,7 +43,8 @@ use Rattle.replica_sync.specs.Storing.{IsNextName, IsFileOfFound}
 use Rattle.replica_sync.proofs.FaithLog.{log_rises, newest_is, next_is, next_line, recorded_line}
 use Rattle.replica_sync.proofs.FaithPiece.{HasPagesOf}
 use Rattle.replica_sync.proofs.FaithSince.{since_later}
-use Rattle.replica_sync.proofs.FaithTurns.{piece_turns, piece_is_shown, piece_since, some_before, newest_here, lost, lost_turns}
+use Rattle.replica_sync.proofs.FaithTurns.{piece_turns, piece_is_shown, piece_since, some_before, newest_here, lost}
+use Rattle.replica_sync.proofs.FaithTurns.{lost_turns}
 use Rattle.replica_sync.proofs.LiveLemmas.{state_stays}
 use Rattle.replica_sync.proofs.SyncStoreLemmas.{next_max}
 

@@ -1,5 +1,6 @@
 -- A sync keeps the faith of the replica.
-use Rattle.std.proofs.Common.{◌≡◌, ℕ, ◌≤◌, false, List, [], ◌∷◌, ◌++◌, length, Option, Some, Ok, refl, sym, subst, length-append, arith}
+use Rattle.std.proofs.Common.{◌≡◌, ℕ, ◌≤◌, false, List, [], ◌∷◌, ◌++◌, length, Option, Some, Ok, refl, sym, subst}
+use Rattle.std.proofs.Common.{length-append, arith}
 use Rattle.crash_disk.specs.declared.event.Event.{Event}
 use Rattle.crash_disk.specs.Files.{files_after}
 use Rattle.ls_base.specs.declared.line.Line.{Line}
@@ -27,7 +28,7 @@ use Rattle.wal_follow.specs.declared.answer.Wanted.TheVariants.{All, Listed}
 use Rattle.wal_follow.specs.declared.following.Following.{Following}
 use Rattle.wal_follow.specs.Answers.{Answers}
 use Rattle.wal_follow.specs.Following.{Fits}
-use Rattle.replica_sync.specs.declared.answer.Synced.TheVariants.{Same}
+use Rattle.round_line.specs.declared.round.Synced.TheVariants.{Same}
 use Rattle.replica_sync.specs.Faith.{IsPlaceOfNewest, IsFollowed, AddsLines, EndsSince, HasSynced, MayHaveSynced}
 use Rattle.replica_sync.specs.LiveSide.{found_of}
 use Rattle.replica_sync.specs.Newest.{next_moment, moment_behind}

@@ -1,5 +1,6 @@
 -- The numbers of the pages that are stored.
-use Rattle.std.proofs.Common.{◌≡◌, ℕ, zero, suc, ◌+◌, ◌-◌, ◌*◌, ◌/◌, ◌%◌, ◌^◌, Some, None, ◌<◌, ◌≤◌, Bool, true, false, List, [], ◌∷◌, length, get_or, refl, sym, ap, subst, ◌∙◌, inl, inr, ⊎_elim, arith}
+use Rattle.std.proofs.Common.{◌≡◌, ℕ, zero, suc, ◌+◌, ◌-◌, ◌*◌, ◌/◌, ◌%◌, ◌^◌, Some, None, ◌<◌, ◌≤◌, Bool, true, false}
+use Rattle.std.proofs.Common.{List, [], ◌∷◌, length, get_or, refl, sym, ap, subst, ◌∙◌, inl, inr, ⊎_elim, arith}
 use Rattle.std.specs.Prelude.{◌≢◌, ◌⊎◌, nat_lt, nat_le, if◌then◌else◌}
 use Rattle.std.specs.List.{Contains, slice_get}
 use Rattle.std.specs.Bool.{OnTrue}
@@ -16,7 +17,8 @@ use Rattle.snapshot_read.proofs.RestLemmas.{first_unlocked}
 use Rattle.wal_follow.specs.declared.answer.Found.{Found}
 use Rattle.wal_follow.specs.declared.answer.Wanted.{Wanted}
 use Rattle.wal_follow.specs.declared.answer.Wanted.TheVariants.{All, Listed}
-use Rattle.replica_sync.specs.Pages.{IsToStore, AreRising, IsWanted, IsStorable, number_in, count_in, number_at, count_of}
+use Rattle.replica_sync.specs.Pages.{IsToStore, AreRising, IsWanted, IsStorable, number_in, count_in, number_at}
+use Rattle.replica_sync.specs.Pages.{count_of}
 
 default_away : (xs : List ℕ) (i d e : ℕ) → i < length xs → get_or xs i d ≡ get_or xs i e
 default_away [] i d e within = absurd (omega (arith, within))
@@ -91,14 +93,19 @@ module _ (size commit lock : ℕ) (some : 2 ≤ lock) (is_lock : lock ≡ lock_p
       ⊎_elim
       (λ below. (
         p - 1,
-        ⊎_elim (λ c. omega (arith, is.0, is.1, below, c.0, c.1)) (λ c. omega (arith, is.0, is.1, below, c.0, c.1)) (count_cases lock commit),
-        ⊎_elim (λ n. omega (arith, is.0, n.1)) (λ n. absurd (omega (arith, is.0, below, n.0))) (number_cases lock (p - 1)),
+        ⊎_elim (λ c. omega (arith, is.0, is.1, below, c.0, c.1))
+            (λ c. omega (arith, is.0, is.1, below, c.0, c.1)) (count_cases lock commit),
+        ⊎_elim (λ n. omega (arith, is.0, n.1)) (λ n. absurd (omega (arith, is.0, below, n.0)))
+            (number_cases lock (p - 1)),
       ))
       (λ behind.
-      let apart : lock < p = ⊎_elim (λ (low : lock < p). low) (λ (high : p ≤ lock). absurd (is.2 (omega (arith, behind, high, is_lock)))) (cases_lt lock p) in (
+      let apart : lock < p = ⊎_elim (λ (low : lock < p). low)
+      (λ (high : p ≤ lock). absurd (is.2 (omega (arith, behind, high, is_lock)))) (cases_lt lock p) in (
         p - 2,
-        ⊎_elim (λ c. omega (arith, some, apart, is.1, c.0, c.1)) (λ c. absurd (omega (arith, apart, is.1, c.0))) (count_cases lock commit),
-        ⊎_elim (λ n. absurd (omega (arith, some, apart, n.0))) (λ n. omega (arith, some, apart, n.1)) (number_cases lock (p - 2)),
+        ⊎_elim (λ c. omega (arith, some, apart, is.1, c.0, c.1))
+            (λ c. absurd (omega (arith, apart, is.1, c.0))) (count_cases lock commit),
+        ⊎_elim (λ n. absurd (omega (arith, some, apart, n.0)))
+            (λ n. omega (arith, some, apart, n.1)) (number_cases lock (p - 2)),
       ))
       (cases_lt p lock)
   has_place (Listed numbers) p is =
@@ -116,7 +123,8 @@ few_pages size commit is small =
 -- no place of a page that is stored is near the last number
 pub place_fits : (lock commit at : ℕ) → commit ≤ 2147483648 → at < count_in All lock commit → at + 2 < 4294967296
 place_fits lock commit at small within =
-    ⊎_elim (λ c. omega (arith, c.0, c.1, within, small)) (λ c. omega (arith, c.0, c.1, within)) (count_cases lock commit)
+    ⊎_elim (λ c. omega (arith, c.0, c.1, within, small)) (λ c. omega (arith, c.0, c.1, within))
+    (count_cases lock commit)
 
 pub found_fits : (found : Found) (at : ℕ) → IsStorable found → found.wanted ≡ All → at < count_of found
     → at + 2 < 4294967296

@@ -76,7 +76,8 @@ page_given before after number page front old new path header block gains gather
 
 -- ---- the end
 
-module _ (file : PageFile) (end : List ℕ) (old mid new : Told) (ends : EndsFile (HasWritten file.writer) file.writer.header end) where
+module _ (file : PageFile) (end : List ℕ) (old mid new : Told)
+    (ends : EndsFile (HasWritten file.writer) file.writer.header end) where
   abbrev bytes_of : PageMap → List ℕ
   bytes_of pages = header_bytes file.writer.header ++ page_blocks pages ++ end
 

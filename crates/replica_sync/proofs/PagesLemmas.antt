@@ -1,5 +1,6 @@
 -- The first pages of what was found are put, and one more.
-use Rattle.std.proofs.Common.{◌≡◌, ℕ, ◌+◌, ◌<◌, ◌≤◌, Bool, true, false, cond, List, Option, Some, Ok, refl, sym, ap, subst, ◌∙◌, ⊎_elim, nat_cmp, arith}
+use Rattle.std.proofs.Common.{◌≡◌, ℕ, ◌+◌, ◌<◌, ◌≤◌, Bool, true, false, cond, List, Option, Some, Ok, refl, sym, ap}
+use Rattle.std.proofs.Common.{subst, ◌∙◌, ⊎_elim, nat_cmp, arith}
 use Rattle.std.specs.Prelude.{◌≢◌, ◌↔◌, IsSome, is_some}
 use Rattle.std.specs.FinMap.{get, empty, insert, get-insert, get-empty}
 use Rattle.std.specs.Cmp.{nat_cmp_total, unsigned_tied}

@@ -1,5 +1,6 @@
 -- What reading pages does to what a live database tells.
-use Rattle.std.proofs.Common.{◌≡◌, ℕ, ◌≤◌, true, false, List, Some, None, Result, Ok, Err, refl, sym, ap, subst, ◌∙◌, arith}
+use Rattle.std.proofs.Common.{◌≡◌, ℕ, ◌≤◌, true, false, List, Some, None, Result, Ok, Err, refl, sym, ap, subst, ◌∙◌}
+use Rattle.std.proofs.Common.{arith}
 use Rattle.std.specs.Prelude.{◌≢◌, IsOk, IsErr}
 use Rattle.crash_disk.specs.declared.fault.DiskFault.{DiskFault}
 use Rattle.ls_base.specs.declared.place.Place.{Place}
@@ -14,10 +15,12 @@ use Rattle.wal_follow.specs.declared.answer.Found.{Found}
 use Rattle.wal_follow.specs.declared.fault.Broken.{Broken}
 use Rattle.wal_follow.specs.declared.fault.Broken.TheVariants.{Salts, Short}
 use Rattle.wal_follow.specs.declared.fault.FollowFault.{FollowFault}
-use Rattle.wal_follow.specs.declared.fault.FollowFault.TheVariants.{Header, SizesDiffer, WalTooLong, TooLarge, GateBroken, Live, Memory}
+use Rattle.wal_follow.specs.declared.fault.FollowFault.TheVariants.{Header, SizesDiffer, WalTooLong, TooLarge}
+use Rattle.wal_follow.specs.declared.fault.FollowFault.TheVariants.{GateBroken, Live, Memory}
 use Rattle.wal_follow.specs.declared.following.Following.{Following}
 use Rattle.wal_follow.specs.Following.{Fits, is_in_log}
-use Rattle.wal_follow.specs.Calls.{GivesWanted, Confirms, IsPageAnswer, IsConfirmAnswer, IsAnswerToSalts, FollowHasCause, target_of}
+use Rattle.wal_follow.specs.Calls.{GivesWanted, Confirms, IsPageAnswer, IsConfirmAnswer, IsAnswerToSalts}
+use Rattle.wal_follow.specs.Calls.{FollowHasCause, target_of}
 use Rattle.replica_sync.specs.declared.answer.SyncFault.{SyncFault}
 use Rattle.replica_sync.specs.declared.answer.SyncFault.TheVariants.{Follow, TxidSpent, Store, Memory as want}
 use Rattle.replica_sync.specs.Answers.{HasCauses}
@@ -120,7 +123,8 @@ live_failed result first fault live_old live_mid live_new old new was is before 
   live_later = omega (arith, before, cause.later);
   store_later = store;
   live_rose = λ live same.
-      let rose = cause.rose live (is ∙ ap (λ (x : FollowFault). Err x) (same_fault fault (Live live) (sym was ∙ same))) in
+      let rose = cause.rose live (is ∙ ap (λ (x : FollowFault). Err x)
+      (same_fault fault (Live live) (sym was ∙ same))) in
       record { least = omega (arith, before, rose.least) };
   store_rose = λ disk same. absurd (not_store disk fault (sym same ∙ was));
 }
@@ -144,7 +148,8 @@ pub later_causes : (result : Done) (live_old live_mid live_new old mid new : ℕ
 later_causes result live_old live_mid live_new old mid new live store causes = record {
   live_later = omega (arith, live, causes.live_later);
   store_later = omega (arith, store, causes.store_later);
-  live_rose = λ fault same. let rose = causes.live_rose fault same in record { least = omega (arith, live, rose.least) };
+  live_rose = λ fault same. let rose = causes.live_rose fault same in record
+      { least = omega (arith, live, rose.least) };
   store_rose = λ fault same.
       let rose = causes.store_rose fault same in record { least = omega (arith, store, rose.least) };
 }

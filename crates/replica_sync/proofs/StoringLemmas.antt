@@ -29,7 +29,8 @@ module _ (found : Found) (storable : IsStorable found) where
       → ((p : ℕ) → IsSome (get pages p) ↔ ((k : ℕ) × (k < count_of found) × (number_at found k ≡ p)))
       → (p : ℕ) → IsSome (get pages p) ↔ IsWanted found p
   all_numbers pages numbers p = (
-    λ there. let k = (numbers p).0 there in subst (λ (q : ℕ). IsWanted found q) k.2 (found_is_stored found storable k.0 k.1),
+    λ there. let k = (numbers p).0 there in subst (λ (q : ℕ). IsWanted found q) k.2
+        (found_is_stored found storable k.0 k.1),
     λ wanted. (numbers p).1 (found_has_place found storable p wanted),
   )
 
@@ -44,7 +45,8 @@ module _ (before after : PageFile) (found : Found) (storable : IsStorable found)
   has_bytes begun has bytes ends = record {
     bytes = bytes;
     pages = (puts begun has).pages;
-    ends = subst (λ (h : LtxHeader). IsWhole h (puts begun has).pages → IsLtxFile bytes h (change_with h (puts begun has).pages)) header ends.is;
+    ends = subst (λ (h : LtxHeader). IsWhole h (puts begun has).pages
+        → IsLtxFile bytes h (change_with h (puts begun has).pages)) header ends.is;
     numbers = all_numbers found storable (puts begun has).pages (puts begun has).numbers;
     shows = (puts begun has).shows;
   }
@@ -89,7 +91,8 @@ module _ (file : PageFile) (found : Found) (name : FileName) (h : LtxHeader) (mo
     header = h;
     change = change_with h has.pages;
     file = λ all. record {
-      file = subst (λ (k : LtxHeader). IsWhole k has.pages → IsLtxFile has.bytes k (change_with k has.pages)) header has.ends
+      file = subst (λ (k : LtxHeader). IsWhole k has.pages → IsLtxFile has.bytes k (change_with k has.pages)) header
+          has.ends
           (whole_pages has all);
       from_min = min;
       to_max = max;
@@ -120,8 +123,10 @@ module _ (file : PageFile) (found : Found) (name : FileName) (h : LtxHeader) (mo
     unfolding file_of_found
     may_store puts = record {
       either = ⊎_elim
-          (λ kept. inl (subst (λ (p : List ℕ). GoesOn old new (λ before now. (now ≡ before) ⊎ KeepsOthers p before now)) path
-          (goes_on-weaker old new (KeepsOthers file.put) (λ before now. (now ≡ before) ⊎ KeepsOthers file.put before now) kept (λ x y k. inr k))))
+          (λ kept. inl (subst (λ (p : List ℕ). GoesOn old new
+          (λ before now. (now ≡ before) ⊎ KeepsOthers p before now)) path
+          (goes_on-weaker old new (KeepsOthers file.put)
+          (λ before now. (now ≡ before) ⊎ KeepsOthers file.put before now) kept (λ x y k. inr k))))
           (λ put. inr (file_of_found put.0, subst (λ (p : List ℕ). GoesOn old new (MayPut p put.0.bytes)) path put.1))
           (puts old has);
     }
@@ -129,11 +134,13 @@ module _ (file : PageFile) (found : Found) (name : FileName) (h : LtxHeader) (mo
 pub store_same : (found : Found) (name : FileName) (moment : ℕ) (told : Told) (live_old live_new : live.Told)
     → MayStoreFound found name moment told told live_old live_new
 store_same found name moment told live_old live_new = record {
-  either = inl (goes_on-same told told (λ before now. (now ≡ before) ⊎ KeepsOthers (path_of name) before now) refl (λ events. inl refl));
+  either = inl (goes_on-same told told (λ before now. (now ≡ before) ⊎ KeepsOthers (path_of name) before now) refl
+      (λ events. inl refl));
 }
 
 pub store_kept : (found : Found) (name : FileName) (moment : ℕ) (old new : Told) (live_old live_new : live.Told)
     → GoesOn old new (KeepsOthers (path_of name)) → MayStoreFound found name moment old new live_old live_new
 store_kept found name moment old new live_old live_new kept = record {
-  either = inl (goes_on-weaker old new (KeepsOthers (path_of name)) (λ before now. (now ≡ before) ⊎ KeepsOthers (path_of name) before now) kept (λ x y k. inr k));
+  either = inl (goes_on-weaker old new (KeepsOthers (path_of name))
+      (λ before now. (now ≡ before) ⊎ KeepsOthers (path_of name) before now) kept (λ x y k. inr k));
 }

@@ -1,5 +1,6 @@
 -- A sync, step by step.
-use Rattle.std.proofs.Common.{◌≡◌, ℕ, ◌<◌, ◌≤◌, Bool, true, false, List, Option, Some, None, Result, Ok, Err, refl, sym, ap, subst, ◌∙◌, ⊎_elim, arith}
+use Rattle.std.proofs.Common.{◌≡◌, ℕ, ◌<◌, ◌≤◌, Bool, true, false, List, Option, Some, None, Result, Ok, Err, refl, sym}
+use Rattle.std.proofs.Common.{ap, subst, ◌∙◌, ⊎_elim, arith}
 use Rattle.std.specs.Prelude.{◌≢◌, IsOk}
 use Rattle.crash_disk.specs.declared.fault.DiskFault.{DiskFault}
 use Rattle.ls_base.specs.declared.mark.Mark.{Mark}
@@ -18,7 +19,8 @@ use Rattle.wal_follow.specs.declared.answer.Next.TheVariants as next
 use Rattle.wal_follow.specs.declared.answer.Wanted.{Wanted}
 use Rattle.wal_follow.specs.declared.answer.Wanted.TheVariants.{All, Listed}
 use Rattle.wal_follow.specs.declared.fault.FollowFault.{FollowFault}
-use Rattle.wal_follow.specs.declared.fault.FollowFault.TheVariants.{Header, SizesDiffer, WalTooLong, TooLarge, GateBroken, Live, Memory}
+use Rattle.wal_follow.specs.declared.fault.FollowFault.TheVariants.{Header, SizesDiffer, WalTooLong, TooLarge}
+use Rattle.wal_follow.specs.declared.fault.FollowFault.TheVariants.{GateBroken, Live, Memory}
 use Rattle.wal_follow.specs.declared.following.Following.{Following}
 use Rattle.wal_follow.specs.declared.following.Target.{Target}
 use Rattle.wal_follow.specs.Following.{Fits, FitsFoundMark, FitsFoundRest, FitsTarget}
@@ -28,8 +30,8 @@ use Rattle.wal_follow.proofs.ReadLemmas.{keeps_hold}
 use Rattle.wal_frames.specs.View.{rest_place}
 use Rattle.live_gate.specs.Step.{IsWriterStep}
 use Rattle.std.proofs.lemmas.Bool.{cases_lt}
-use Rattle.replica_sync.specs.declared.answer.Synced.{Synced}
-use Rattle.replica_sync.specs.declared.answer.Synced.TheVariants.{Same}
+use Rattle.round_line.specs.declared.round.Synced.{Synced}
+use Rattle.round_line.specs.declared.round.Synced.TheVariants.{Same}
 use Rattle.replica_sync.specs.declared.answer.SyncFault.{SyncFault}
 use Rattle.replica_sync.specs.declared.answer.SyncFault.TheVariants.{Follow, TxidSpent, Store, Memory as want}
 use Rattle.replica_sync.specs.Answers.{IsNamed, IsNextAnswer, HasCauses, last_txid}
@@ -63,8 +65,10 @@ pub recast : {S T : Type 0} (result : Result T SyncFault) (e : SyncFault) (live_
 recast {S} result e live_old live_new old new was causes = record {
   live_later = causes.live_later;
   store_later = causes.store_later;
-  live_rose = λ fault same. causes.live_rose fault (ap (λ (x : SyncFault). Err x) (same_err e (Follow (Live fault)) (sym was ∙ same)));
-  store_rose = λ fault same. causes.store_rose fault (ap (λ (x : SyncFault). Err x) (same_err e (Store fault) (sym was ∙ same)));
+  live_rose = λ fault same. causes.live_rose fault
+      (ap (λ (x : SyncFault). Err x) (same_err e (Follow (Live fault)) (sym was ∙ same)));
+  store_rose = λ fault same. causes.store_rose fault
+      (ap (λ (x : SyncFault). Err x) (same_err e (Store fault) (sym was ∙ same)));
 }
 
 pub later_recast : {S T : Type 0} (result : Result T SyncFault) (e : SyncFault) (live_old live_mid live_new old new : ℕ)
@@ -74,9 +78,11 @@ later_recast {S} result e live_old live_mid live_new old new was later causes = 
   live_later = omega (arith, later, causes.live_later);
   store_later = causes.store_later;
   live_rose = λ fault same.
-      let rose = causes.live_rose fault (ap (λ (x : SyncFault). Err x) (same_err e (Follow (Live fault)) (sym was ∙ same))) in
+      let rose = causes.live_rose fault
+      (ap (λ (x : SyncFault). Err x) (same_err e (Follow (Live fault)) (sym was ∙ same))) in
       record { least = omega (arith, later, rose.least) };
-  store_rose = λ fault same. causes.store_rose fault (ap (λ (x : SyncFault). Err x) (same_err e (Store fault) (sym was ∙ same)));
+  store_rose = λ fault same. causes.store_rose fault
+      (ap (λ (x : SyncFault). Err x) (same_err e (Store fault) (sym was ∙ same)));
 }
 
 pub all_well : {T : Type 0} (value : T) (live_old live_new old new : ℕ) → live_old ≤ live_new → old ≤ new
@@ -98,7 +104,8 @@ follow_causes {S} {T} result first fault live_old live_new store was is cause = 
   store_rose = λ found same. absurd (other found (sym was ∙ same));
 }
   where
-    inner : (found : LiveFault) → ◌≡◌ {A = Result T SyncFault} (Err (Follow fault)) (Err (Follow (Live found))) → fault ≡ Live found
+    inner : (found : LiveFault) → ◌≡◌ {A = Result T SyncFault} (Err (Follow fault)) (Err (Follow (Live found)))
+        → fault ≡ Live found
     inner found e = cc
 
     other : (found : DiskFault) → ◌≡◌ {A = Result T SyncFault} (Err (Follow fault)) (Err (Store found)) → ⊥
@@ -109,7 +116,8 @@ follow_causes {S} {T} result first fault live_old live_new store was is cause = 
 module _ (f : Following) (target : Target) (d : Database) (fits : Fits f d) (found : f.found ≡ Some target) where
   advances_at : (place : Place) → place ≡ target.place → MayAdvanceTo (Some place) d
   advances_at (Wal a b end s0 s1) is = λ calm.
-      let m : FitsFoundMark f target d = subst (λ (p : Place). FitsTarget f target d p) (sym is) ((fits.calm calm).found target found) in
+      let m : FitsFoundMark f target d = subst (λ (p : Place). FitsTarget f target d p) (sym is)
+      ((fits.calm calm).found target found) in
       let gate = fits.gate in
       let same : Wal a b end s0 s1 ≡ place_of m.mark = is ∙ m.place in
       let ends : end ≡ m.mark.end = wal_ends a b end s0 s1 m.mark same in
@@ -119,7 +127,8 @@ module _ (f : Following) (target : Target) (d : Database) (fits : Fits f d) (fou
       wal_ends : (a b end s0 s1 : ℕ) (mark : Mark) → Wal a b end s0 s1 ≡ place_of mark → end ≡ mark.end
       wal_ends a b end s0 s1 mark e = cc
   advances_at (Rest sum) is = λ calm.
-      let r : FitsFoundRest f target d = subst (λ (p : Place). FitsTarget f target d p) (sym is) ((fits.calm calm).found target found) in
+      let r : FitsFoundRest f target d = subst (λ (p : Place). FitsTarget f target d p) (sym is)
+      ((fits.calm calm).found target found) in
       r.held
 
   pub may_advance : MayAdvanceTo (Some target.place) d
@@ -127,7 +136,8 @@ module _ (f : Following) (target : Target) (d : Database) (fits : Fits f d) (fou
 
 -- ---- storing
 
-pub unstored : {T : Type 0} (f : Following) (place : Place) (result : Result T SyncFault) (e : SyncFault) (r : LiveRecord)
+pub unstored : {T : Type 0} (f : Following) (place : Place) (result : Result T SyncFault) (e : SyncFault)
+    (r : LiveRecord)
     → result ≡ Err e → ((fault : FollowFault) → e ≡ Follow fault → ⊥) → Fits f r.database
     → StoresLive f f place result r r
 unstored {T} f place result e r was other fits =
@@ -140,7 +150,8 @@ unstored {T} f place result e r was other fits =
       whole = λ broken is legal calm. other (GateBroken broken) (same_err {T = T} e (Follow (GateBroken broken)) is);
     })
 
-pub not_stored : {T : Type 0} (f : Following) (place : Place) (result : Result T SyncFault) (e : SyncFault) (old new : LiveRecord)
+pub not_stored : {T : Type 0} (f : Following) (place : Place) (result : Result T SyncFault) (e : SyncFault)
+    (old new : LiveRecord)
     → result ≡ Err e → ReadsFound f place (Err e) old new → StoresLive f f place result old new
 not_stored {T} f place result e old new was reads =
     subst (λ (x : Result T SyncFault). StoresLive f f place x old new) (sym was) (record {
@@ -148,11 +159,14 @@ not_stored {T} f place result e old new was reads =
       awake = λ ok before. absurd (err_is_ok T e ok);
       fits = λ legal awake. reads.fits awake;
       hold = λ ok before. absurd (err_is_ok T e ok);
-      broken = λ broken is. reads.broken broken (ap (λ (x : SyncFault). Err x) (same_err {T = T} e (Follow (GateBroken broken)) is));
-      whole = λ broken is legal calm. reads.whole broken (ap (λ (x : SyncFault). Err x) (same_err {T = T} e (Follow (GateBroken broken)) is)) legal calm;
+      broken = λ broken is. reads.broken broken
+          (ap (λ (x : SyncFault). Err x) (same_err {T = T} e (Follow (GateBroken broken)) is));
+      whole = λ broken is legal calm. reads.whole broken
+          (ap (λ (x : SyncFault). Err x) (same_err {T = T} e (Follow (GateBroken broken)) is)) legal calm;
     })
 
-pub was_stored : (f after : Following) (found : Found) (name : FileName) (old new : LiveRecord) → f.found ≡ Some (target_of found)
+pub was_stored : (f after : Following) (found : Found) (name : FileName) (old new : LiveRecord)
+    → f.found ≡ Some (target_of found)
     → ((d : Database) → IsLegal d → Fits f d → Fits after d) → ReadsFound f found.place (Ok tt) old new
     → StoresLive f after found.place (Ok name) old new
 was_stored f after found name old new is_found stored reads = record {
@@ -164,9 +178,11 @@ was_stored f after found name old new is_found stored reads = record {
   whole = λ broken is legal calm. absurd cc;
 }
 
-pub next_answer : {T : Type 0} (dated : List Dated) (result : Result T SyncFault) (e : SyncFault) → result ≡ Err e → IsStoreFault (Err e)
+pub next_answer : {T : Type 0} (dated : List Dated) (result : Result T SyncFault) (e : SyncFault) → result ≡ Err e
+    → IsStoreFault (Err e)
     → newest_of dated < last_txid → IsNextAnswer dated result
-next_answer {T} dated result e was answer left = subst (λ (x : Result T SyncFault). IsNextAnswer dated x) (sym was) (by e answer)
+next_answer {T} dated result e was answer left = subst (λ (x : Result T SyncFault). IsNextAnswer dated x) (sym was)
+    (by e answer)
   where
     by : (e : SyncFault) → IsStoreFault (Err e) → IsNextAnswer {T = T} dated (Err e)
     by (Store cause) answer = left
@@ -182,7 +198,8 @@ next_answer {T} dated result e was answer left = subst (λ (x : Result T SyncFau
 
 -- ---- the names
 
-pub named_follow : (dated : List Dated) (fault : FollowFault) → NeverBroken (Err fault) → IsNamed dated (Err (Follow fault))
+pub named_follow : (dated : List Dated) (fault : FollowFault) → NeverBroken (Err fault)
+    → IsNamed dated (Err (Follow fault))
 named_follow dated (Header cause) never = tt
 named_follow dated (SizesDiffer db wal) never = tt
 named_follow dated (WalTooLong n) never = tt
@@ -191,7 +208,8 @@ named_follow dated (GateBroken broken) never = absurd never
 named_follow dated (Live cause) never = tt
 named_follow dated Memory never = tt
 
-pub named_refused : (dated : List Dated) (e : SyncFault) → IsNextAnswer {T = FileName} dated (Err e) → IsNamed dated (Err e)
+pub named_refused : (dated : List Dated) (e : SyncFault) → IsNextAnswer {T = FileName} dated (Err e)
+    → IsNamed dated (Err e)
 named_refused dated TxidSpent answer = answer
 named_refused dated (Store cause) answer = answer
 named_refused dated (Follow (GateBroken broken)) answer = answer
@@ -220,7 +238,8 @@ syncs_err f after fault old new never follows = record {
   shows = by fault never follows;
 }
   where
-    by : (fault : FollowFault) → NeverBroken (Err fault) → Follows f after (Err fault) old new → Shows f after (Err (Follow fault)) old new
+    by : (fault : FollowFault) → NeverBroken (Err fault) → Follows f after (Err fault) old new
+        → Shows f after (Err (Follow fault)) old new
     by (Header cause) never follows = follows
     by (SizesDiffer db wal) never follows = follows
     by (WalTooLong n) never follows = follows
@@ -229,7 +248,8 @@ syncs_err f after fault old new never follows = record {
     by (Live cause) never follows = tt
     by Memory never follows = tt
 
-module _ (f kept after : Following) (answer : Next) (found : Found) (old mid new : LiveRecord) (first : Follows f kept (Ok answer) old mid)
+module _ (f kept after : Following) (answer : Next) (found : Found) (old mid new : LiveRecord)
+    (first : Follows f kept (Ok answer) old mid)
     (is : found_of answer ≡ Some found) where
   abbrev followed : IsWriterStep mid.database new.database → HasFollowed f answer old new
   followed step = record { kept = kept; mid = mid; follows = first; on = step }
@@ -250,7 +270,8 @@ module _ (f kept after : Following) (answer : Next) (found : Found) (old mid new
     shows = by e refused second;
   }
     where
-      by : (e : SyncFault) → IsNextAnswer {T = FileName} dated (Err e) → StoresLive {T = FileName} kept after found.place (Err e) mid new
+      by : (e : SyncFault) → IsNextAnswer {T = FileName} dated (Err e)
+          → StoresLive {T = FileName} kept after found.place (Err e) mid new
           → Shows f after (Err e) old new
       by TxidSpent refused second = record { answer = answer; some = not_same; followed = followed second.step }
       by (Store cause) refused second = record { answer = answer; some = not_same; followed = followed second.step }
@@ -274,17 +295,35 @@ module _ (f kept after : Following) (answer : Next) (found : Found) (old mid new
     step = step_join old.database mid.database new.database first.step second.step;
     awake = λ ok. second.awake refl (first.awake refl);
     fits = λ legal awake. second.fits (first.step.legal legal) awake;
-    hold = λ legal ok passed. subst (λ (p : Option Place). MayAdvanceTo p new.database) (sym place) (second.hold refl (first.awake refl));
+    hold = λ legal ok passed. subst (λ (p : Option Place). MayAdvanceTo p new.database) (sym place)
+        (second.hold refl (first.awake refl));
     shows = by found.wanted refl;
   }
     where
       by : (w : Wanted) → found.wanted ≡ w → Shows f after (Ok (synced_of w name)) old new
-      by All kind = record { answer = answer; found = found; is = is; followed = followed second.step; kind = subst IsWhole (sym kind) tt; place = place }
-      by (Listed numbers) kind = record { answer = answer; found = found; is = is; followed = followed second.step; kind = subst IsPiece (sym kind) tt; place = place }
+      by All kind = record {
+        answer = answer;
+        found = found;
+        is = is;
+        followed = followed second.step;
+        kind =
+            subst IsWhole (sym kind) tt;
+        place = place;
+      }
+      by (Listed numbers) kind = record {
+        answer = answer;
+        found = found;
+        is = is;
+        followed = followed second.step;
+        kind = subst IsPiece (sym kind)
+            tt;
+        place = place;
+      }
 
 -- ---- nothing changed
 
-module _ (f after : Following) (old new : LiveRecord) (follows : Follows f after (Ok next.Same) old new) (legal : IsLegal old.database)
+module _ (f after : Following) (old new : LiveRecord) (follows : Follows f after (Ok next.Same) old new)
+    (legal : IsLegal old.database)
     (fits : Fits f old.database) (place : after.place ≡ f.place) (passed : after.passed ≡ f.passed) where
   held_now : (q : Mark) → ((m : Mark) → IsMark old.database.committed m → m.end ≤ q.end)
       → (held : ℕ) × (new.database.held ≡ Some held) × (held ≤ q.end)
@@ -311,11 +350,13 @@ module _ (f after : Following) (old new : LiveRecord) (follows : Follows f after
       let held = held_now stays.q stays.finds.latest in
       (held.0, held.1, omega (arith, held.2, same), (stays.q, stays.finds.is_mark, sym same)))
       (λ (stays : StaysAtRest f old.database new.database).
-      absurd (stays.follows (subst (λ (b : Bool). IsLostAtRest b f.place (rest_place stays.size new.database.file)) (sym still)
+      absurd (stays.follows (subst (λ (b : Bool). IsLostAtRest b f.place (rest_place stays.size new.database.file))
+      (sym still)
       (subst (λ (p : Option Place). IsLostAtRest false p (rest_place stays.size new.database.file)) (sym is) refl))))
       (follows.answers legal calm)
     where
-      mark_end : (a b end s0 s1 : ℕ) (q : Mark) → ◌≡◌ {A = Option Place} (Some (Wal a b end s0 s1)) (Some (place_of q)) → end ≡ q.end
+      mark_end : (a b end s0 s1 : ℕ) (q : Mark) → ◌≡◌ {A = Option Place} (Some (Wal a b end s0 s1))
+          (Some (place_of q)) → end ≡ q.end
       mark_end a b end s0 s1 q e = cc
   at_place (Some (Rest sum)) is still = λ calm.
       ⊎_elim
@@ -331,6 +372,7 @@ module _ (f after : Following) (old new : LiveRecord) (follows : Follows f after
     step = follows.step;
     awake = λ ok. follows.awake refl;
     fits = follows.fits;
-    hold = λ also ok still. subst (λ (p : Option Place). MayAdvanceTo p new.database) (sym place) (at_place f.place refl (sym passed ∙ still));
+    hold = λ also ok still. subst (λ (p : Option Place). MayAdvanceTo p new.database) (sym place)
+        (at_place f.place refl (sym passed ∙ still));
     shows = follows;
   }

@@ -1,5 +1,6 @@
 -- A sync of the replica's disk, step by step.
-use Rattle.std.proofs.Common.{◌≡◌, ℕ, ◌+◌, ◌<◌, List, Option, Some, None, Result, Ok, Err, refl, sym, ap, subst, inl, inr, ⊎_elim, arith}
+use Rattle.std.proofs.Common.{◌≡◌, ℕ, ◌+◌, ◌<◌, List, Option, Some, None, Result, Ok, Err, refl, sym, ap, subst, inl}
+use Rattle.std.proofs.Common.{inr, ⊎_elim, arith}
 use Rattle.std.specs.Prelude.{◌⊎◌}
 use Rattle.crash_disk.specs.GoesOn as disk
 use Rattle.crash_disk.specs.Told as store
@@ -15,7 +16,7 @@ use Rattle.wal_follow.specs.declared.answer.Next.TheVariants as next
 use Rattle.wal_follow.specs.declared.answer.Wanted.{Wanted}
 use Rattle.wal_follow.specs.declared.answer.Wanted.TheVariants.{All, Listed}
 use Rattle.wal_follow.specs.Calls.{target_of, found_in}
-use Rattle.replica_sync.specs.declared.answer.Synced.{Synced}
+use Rattle.round_line.specs.declared.round.Synced.{Synced}
 use Rattle.replica_sync.specs.declared.answer.SyncFault.{SyncFault}
 use Rattle.replica_sync.specs.LiveSide.{found_of}
 use Rattle.replica_sync.specs.Newest.{newest_of}
@@ -34,22 +35,26 @@ is_stored_file dated found name moment live_old live_new is stored = record {
   dated = stored.dated;
 }
   where
-    by : (w : Wanted) → found.wanted ≡ w → IsNextName dated w name → (name.level ≡ 9) ⊎ (1 < name.min) → name.min ≡ 1 → found.wanted ≡ All
+    by : (w : Wanted) → found.wanted ≡ w → IsNextName dated w name → (name.level ≡ 9) ⊎ (1 < name.min) → name.min ≡ 1
+        → found.wanted ≡ All
     by All kind is which first = kind
     by (Listed numbers) kind is (inl nine) first = let level = is.level in absurd (omega (arith, nine, level))
     by (Listed numbers) kind is (inr more) first = absurd (omega (arith, more, first))
 
-pub next_max : (dated : List Dated) (wanted : Wanted) (name : FileName) → IsNextName dated wanted name → name.max ≡ newest_of dated + 1
+pub next_max : (dated : List Dated) (wanted : Wanted) (name : FileName) → IsNextName dated wanted name
+    → name.max ≡ newest_of dated + 1
 next_max dated All name is = is.max
 next_max dated (Listed numbers) name is = is.max
 
-pub store_unchanged : (dated : List Dated) (moment : ℕ) (result : Result Synced SyncFault) (e : SyncFault) (told : store.Told) → result ≡ Err e
+pub store_unchanged : (dated : List Dated) (moment : ℕ) (result : Result Synced SyncFault) (e : SyncFault)
+    (told : store.Told) → result ≡ Err e
     → disk.GoesOn told told (Stores dated moment result)
 store_unchanged dated moment result e told was =
     subst (λ (r : Result Synced SyncFault). disk.GoesOn told told (Stores dated moment r)) (sym was)
     (steps.goes_on-same told told (Stores dated moment (Err e)) refl (λ events. inl refl))
 
-pub store_refused : (dated : List Dated) (found : Found) (moment : ℕ) (e : SyncFault) (old new : store.Told) (live_old live_new : Told)
+pub store_refused : (dated : List Dated) (found : Found) (moment : ℕ) (e : SyncFault) (old new : store.Told)
+    (live_old live_new : Told)
     → MayStoreNext dated found moment old new live_old live_new → disk.GoesOn old new (Stores dated moment (Err e))
 store_refused dated found moment e old new live_old live_new may =
     ⊎_elim
@@ -58,7 +63,12 @@ store_refused dated found moment e old new live_old live_new may =
     ⊎_elim
     (λ kept. steps.goes_on-weaker old new _ (Stores dated moment (Err e)) kept
     (λ x y either. ⊎_elim (λ same. inl same)
-    (λ k. inr (record { name = next.0; valid = next.1; next = next_max dated found.wanted next.0 next.2; puts = inl k })) either))
+    (λ k. inr (record {
+      name = next.0;
+      valid = next.1;
+      next = next_max dated found.wanted next.0 next.2;
+      puts = inl k;
+    })) either))
     (λ put. steps.goes_on-weaker old new (MayPut (path_of next.0) put.0.bytes) (Stores dated moment (Err e)) put.1
     (λ x y either. inr (record {
       name = next.0;
@@ -70,20 +80,28 @@ store_refused dated found moment e old new live_old live_new may =
     next.3.either)
     may.either
 
-pub store_stored : (dated : List Dated) (found : Found) (name : FileName) (moment : ℕ) (old new : store.Told) (live_old live_new : Told)
+pub store_stored : (dated : List Dated) (found : Found) (name : FileName) (moment : ℕ) (old new : store.Told)
+    (live_old live_new : Told)
     → StoresNext dated found name moment old new live_old live_new
     → disk.GoesOn old new (Stores dated moment (Ok (synced_of found.wanted name)))
 store_stored dated found name moment old new live_old live_new is =
     let stored = is.stores.stored in
     let whole = steps.goes_on-weaker old new (HasPut (path_of name) stored.bytes) (HasStored moment name) is.stores.put
-    (λ x y put. record { bytes = stored.bytes; file = is_stored_file dated found name moment live_old live_new is.is_next stored; put = put }) in
+    (λ x y put. record {
+      bytes = stored.bytes;
+      file = is_stored_file dated found name moment live_old live_new
+          is.is_next stored;
+      put = put;
+    }) in
     by found.wanted whole
   where
-    by : (w : Wanted) → disk.GoesOn old new (HasStored moment name) → disk.GoesOn old new (Stores dated moment (Ok (synced_of w name)))
+    by : (w : Wanted) → disk.GoesOn old new (HasStored moment name)
+        → disk.GoesOn old new (Stores dated moment (Ok (synced_of w name)))
     by All whole = whole
     by (Listed numbers) whole = whole
 
-pub found_target : (answer : Next) (found : Found) → found_of answer ≡ Some found → found_in answer ≡ Some (target_of found)
+pub found_target : (answer : Next) (found : Found) → found_of answer ≡ Some found
+    → found_in answer ≡ Some (target_of found)
 found_target next.Same found is = absurd (by is)
   where
     by : ◌≡◌ {A = Option Found} None (Some found) → ⊥

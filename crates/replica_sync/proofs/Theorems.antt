@@ -19,8 +19,8 @@ use Rattle.wal_follow.specs.declared.answer.Next.TheVariants as answer
 use Rattle.wal_follow.specs.Answers.{Answers}
 use Rattle.wal_follow.specs.Calls.{Follows}
 use Rattle.wal_follow.specs.Following.{Fits}
-use Rattle.replica_sync.specs.declared.answer.Synced.{Synced}
-use Rattle.replica_sync.specs.declared.answer.Synced.TheVariants.{Same}
+use Rattle.round_line.specs.declared.round.Synced.{Synced}
+use Rattle.round_line.specs.declared.round.Synced.TheVariants.{Same}
 use Rattle.replica_sync.specs.declared.answer.SyncFault.{SyncFault}
 use Rattle.replica_sync.specs.Faith.{IsPlaceOfNewest, MayHaveSynced, HasSynced, IfBothTell, SyncKeepsFaith}
 use Rattle.replica_sync.specs.LiveSide.{found_of}

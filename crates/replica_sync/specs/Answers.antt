@@ -4,9 +4,10 @@ use Rattle.crash_disk.specs.declared.fault.DiskFault.{DiskFault}
 use Rattle.ls_base.specs.Fault.{Rose}
 use Rattle.live_gate.specs.declared.fault.LiveFault.{LiveFault}
 use Rattle.replica_store.specs.declared.dated_names.Dated.{Dated}
-use Rattle.wal_follow.specs.declared.fault.FollowFault.TheVariants.{Header, SizesDiffer, WalTooLong, TooLarge, GateBroken, Live, Memory}
-use Rattle.replica_sync.specs.declared.answer.Synced.{Synced}
-use Rattle.replica_sync.specs.declared.answer.Synced.TheVariants.{Same, Piece, Whole}
+use Rattle.wal_follow.specs.declared.fault.FollowFault.TheVariants.{Header, SizesDiffer, WalTooLong, TooLarge}
+use Rattle.wal_follow.specs.declared.fault.FollowFault.TheVariants.{GateBroken, Live, Memory}
+use Rattle.round_line.specs.declared.round.Synced.{Synced}
+use Rattle.round_line.specs.declared.round.Synced.TheVariants.{Same, Piece, Whole}
 use Rattle.replica_sync.specs.declared.answer.SyncFault.{SyncFault}
 use Rattle.replica_sync.specs.declared.answer.SyncFault.TheVariants as fault
 use Rattle.replica_sync.specs.Newest.{newest_of, IsPieceName, IsWholeName}

@@ -1,5 +1,6 @@
 -- What a sync keeps: the replica goes on telling the truth, as read and whatever a crash leaves.
-use Rattle.std.specs.Prelude.{◌≡◌, ◌≢◌, ℕ, ◌+◌, ◌≤◌, List, [], ◌∷◌, ◌++◌, length, Option, Some, None, Result, Ok, Err, ◌⊎◌}
+use Rattle.std.specs.Prelude.{◌≡◌, ◌≢◌, ℕ, ◌+◌, ◌≤◌, List, [], ◌∷◌, ◌++◌, length, Option, Some, None, Result, Ok, Err}
+use Rattle.std.specs.Prelude.{◌⊎◌}
 use Rattle.std.specs.List.{slice_get}
 use Rattle.crash_disk.specs.declared.event.Event.{Event}
 use Rattle.crash_disk.specs.Files.{Files, files_after, file_at}
@@ -34,8 +35,8 @@ use Rattle.wal_follow.specs.declared.answer.Found.{Found}
 use Rattle.wal_follow.specs.declared.following.Following.{Following}
 use Rattle.wal_follow.specs.Answers.{FindsMark, IsLostAtMark, AreSince, LosesAtMark, LosesAtRest}
 use Rattle.wal_follow.specs.Piece.{IsPieceSince, IsWhole}
-use Rattle.replica_sync.specs.declared.answer.Synced.{Synced}
-use Rattle.replica_sync.specs.declared.answer.Synced.TheVariants.{Same, Piece, Whole}
+use Rattle.round_line.specs.declared.round.Synced.{Synced}
+use Rattle.round_line.specs.declared.round.Synced.TheVariants.{Same, Piece, Whole}
 use Rattle.replica_sync.specs.declared.answer.SyncFault.{SyncFault}
 use Rattle.replica_sync.specs.Newest.{moment_behind}
 

@@ -12,13 +12,14 @@ use Rattle.wal_follow.specs.declared.answer.Found.{Found}
 use Rattle.wal_follow.specs.declared.answer.Wanted.{Wanted}
 use Rattle.wal_follow.specs.declared.answer.Wanted.TheVariants.{All, Listed}
 use Rattle.wal_follow.specs.declared.fault.Broken.{Broken}
-use Rattle.wal_follow.specs.declared.fault.FollowFault.TheVariants.{Header, SizesDiffer, WalTooLong, TooLarge, GateBroken, Live, Memory}
+use Rattle.wal_follow.specs.declared.fault.FollowFault.TheVariants.{Header, SizesDiffer, WalTooLong, TooLarge}
+use Rattle.wal_follow.specs.declared.fault.FollowFault.TheVariants.{GateBroken, Live, Memory}
 use Rattle.wal_follow.specs.declared.following.Following.{Following}
 use Rattle.wal_follow.specs.Following.{Fits}
 use Rattle.wal_follow.specs.Calls.{Follows}
 use Rattle.replica_sync.specs.Reading.{IsBrokenBy}
-use Rattle.replica_sync.specs.declared.answer.Synced.{Synced}
-use Rattle.replica_sync.specs.declared.answer.Synced.TheVariants.{Same, Piece, Whole}
+use Rattle.round_line.specs.declared.round.Synced.{Synced}
+use Rattle.round_line.specs.declared.round.Synced.TheVariants.{Same, Piece, Whole}
 use Rattle.replica_sync.specs.declared.answer.SyncFault.{SyncFault}
 use Rattle.replica_sync.specs.declared.answer.SyncFault.TheVariants as fault
 

@@ -11,7 +11,8 @@ use Rattle.live_gate.specs.Step.{IsWriterStep}
 use Rattle.wal_follow.specs.declared.answer.Found.{Found}
 use Rattle.wal_follow.specs.declared.fault.Broken.{Broken}
 use Rattle.wal_follow.specs.declared.fault.Broken.TheVariants.{Salts, Short}
-use Rattle.wal_follow.specs.declared.fault.FollowFault.TheVariants.{Header, SizesDiffer, WalTooLong, TooLarge, GateBroken, Live, Memory}
+use Rattle.wal_follow.specs.declared.fault.FollowFault.TheVariants.{Header, SizesDiffer, WalTooLong, TooLarge}
+use Rattle.wal_follow.specs.declared.fault.FollowFault.TheVariants.{GateBroken, Live, Memory}
 use Rattle.wal_follow.specs.declared.following.Following.{Following}
 use Rattle.wal_follow.specs.Following.{Fits}
 use Rattle.wal_follow.specs.Calls.{IsTargetView, target_of, IsAnswerToSalts}

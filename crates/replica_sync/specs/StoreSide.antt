@@ -8,8 +8,8 @@ use Rattle.replica_store.specs.declared.file_name.FileName.{FileName}
 use Rattle.replica_store.specs.FileOf.{IsFileOf}
 use Rattle.replica_store.specs.Listing.{path_of, IsValid}
 use Rattle.replica_store.specs.Putting.{KeepsOthers, Puts, HasPut}
-use Rattle.replica_sync.specs.declared.answer.Synced.{Synced}
-use Rattle.replica_sync.specs.declared.answer.Synced.TheVariants.{Same, Piece, Whole}
+use Rattle.round_line.specs.declared.round.Synced.{Synced}
+use Rattle.round_line.specs.declared.round.Synced.TheVariants.{Same, Piece, Whole}
 use Rattle.replica_sync.specs.declared.answer.SyncFault.{SyncFault}
 use Rattle.replica_sync.specs.Newest.{newest_of}
 

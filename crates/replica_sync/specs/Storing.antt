@@ -17,8 +17,8 @@ use Rattle.wal_follow.specs.declared.answer.Found.{Found}
 use Rattle.wal_follow.specs.declared.answer.Wanted.{Wanted}
 use Rattle.wal_follow.specs.declared.answer.Wanted.TheVariants.{All, Listed}
 use Rattle.wal_follow.specs.Calls.{target_of}
-use Rattle.replica_sync.specs.declared.answer.Synced.{Synced}
-use Rattle.replica_sync.specs.declared.answer.Synced.TheVariants.{Piece, Whole}
+use Rattle.round_line.specs.declared.round.Synced.{Synced}
+use Rattle.round_line.specs.declared.round.Synced.TheVariants.{Piece, Whole}
 use Rattle.replica_sync.specs.declared.page_file.PageFile.{PageFile}
 use Rattle.replica_sync.specs.Newest.{newest_of, IsPieceName, IsWholeName}
 use Rattle.replica_sync.specs.PageFile.{HasPages}

@@ -4,21 +4,9 @@ ghost use Rattle.std.specs.Prelude.{◌≡◌};
 ghost use Rattle.replica_sync.specs.declared.answer.SyncFault.TheVariants.{Follow, Store, Memory as want};
 
 use crash_disk::DiskFault;
-use replica_store::FileName;
 use std::alloc::AllocError;
 use thiserror::Error;
 use wal_follow::FollowFault;
-
-/// What a sync stored.
-#[derive(Clone, Copy, Debug, PartialEq, Eq)]
-pub enum Synced {
-    /// Nothing: the newest file has the last state.
-    Same,
-    /// The piece since the newest file.
-    Piece(FileName),
-    /// The whole state.
-    Whole(FileName),
-}
 
 /// Why a sync was refused.
 #[derive(Clone, Copy, Debug, PartialEq, Eq, Error)]

@@ -25,5 +25,6 @@ mod storing;
 mod syncing;
 mod wanted;
 
-pub use answer::{SyncFault, Synced};
+pub use answer::SyncFault;
+pub use round_line::Synced;
 pub use syncing::sync;

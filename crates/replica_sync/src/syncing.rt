@@ -14,11 +14,12 @@ ghost use Rattle.replica_sync.specs.LiveSide.{Syncs, found_of};
 ghost use Rattle.replica_sync.specs.Storing.{synced_of};
 ghost use Rattle.replica_sync.specs.StoreSide.{Stores};
 
-use crate::answer::{SyncFault, Synced};
+use crate::answer::SyncFault;
 use crate::storing::store_next;
 use crash_disk::Disk;
 use live_gate::Live;
 use replica_store::{Dated, FileName};
+use round_line::Synced;
 use std::alloc::Global;
 use wal_follow::{Follower, Found, Next, Wanted};
 

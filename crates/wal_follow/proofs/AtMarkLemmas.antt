@@ -1,5 +1,6 @@
 -- A follower that found a mark fits the live database.
-use Rattle.std.proofs.Common.{◌≡◌, ℕ, ◌+◌, ◌*◌, ◌<◌, ◌≤◌, Bool, true, false, cond, List, length, Option, Some, None, Result, Ok, Err, refl, sym, ap, subst, ◌∙◌, inl, inr, arith}
+use Rattle.std.proofs.Common.{◌≡◌, ℕ, ◌+◌, ◌*◌, ◌<◌, ◌≤◌, Bool, true, false, cond, List, length, Option, Some, None}
+use Rattle.std.proofs.Common.{Result, Ok, Err, refl, sym, ap, subst, ◌∙◌, inl, inr, arith}
 use Rattle.std.specs.Prelude.{◌⊎◌, ◌≢◌, option_map, if◌then◌else◌}
 use Rattle.std.specs.Option.{option_or}
 use Rattle.std.specs.FinMap.{get}
@@ -34,7 +35,8 @@ use Rattle.wal_follow.specs.declared.fault.FollowFault.TheVariants.{SizesDiffer,
 use Rattle.wal_follow.specs.declared.gather.Gathered.{Gathered}
 use Rattle.wal_follow.specs.Answers.{Answers}
 use Rattle.wal_follow.specs.AtMark.{GathersMark, GathersSince, IsAsked, FollowsMark}
-use Rattle.wal_follow.specs.Following.{is_in_log, gathered_at, HasLearned, AreOffsetsAt, FitsPassed, FitsRecorded, FitsFoundMark, FitsTarget, FitsCalm, Fits}
+use Rattle.wal_follow.specs.Following.{is_in_log, gathered_at, HasLearned, AreOffsetsAt, FitsPassed, FitsRecorded}
+use Rattle.wal_follow.specs.Following.{FitsFoundMark, FitsTarget, FitsCalm, Fits}
 use Rattle.wal_follow.specs.Piece.{frames_between}
 use Rattle.wal_follow.specs.Steps.{next_of}
 use Rattle.wal_follow.proofs.FitsLemmas.{fits_stays}

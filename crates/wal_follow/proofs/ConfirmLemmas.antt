@@ -1,5 +1,6 @@
 -- The salts of a log's header, read again.
-use Rattle.std.proofs.Common.{◌≡◌, ℕ, ◌+◌, ◌≤◌, Bool, true, false, List, ◌++◌, length, take, drop, Option, Some, None, Result, Ok, Err, refl, sym, ap, subst, ◌∙◌, inl, inr, arith}
+use Rattle.std.proofs.Common.{◌≡◌, ℕ, ◌+◌, ◌≤◌, Bool, true, false, List, ◌++◌, length, take, drop, Option, Some, None}
+use Rattle.std.proofs.Common.{Result, Ok, Err, refl, sym, ap, subst, ◌∙◌, inl, inr, arith}
 use Rattle.std.specs.Prelude.{◌⊎◌, ◌≢◌, ◌==◌, ◌&&◌, if◌then◌else◌, IsErrOf}
 use Rattle.std.proofs.lemmas.List.{take_all}
 use Rattle.ls_base.specs.declared.mark.Mark.{Mark}
@@ -23,7 +24,8 @@ use Rattle.wal_follow.specs.Calls.{salts_of, salts_in, salts_answer, IsAnswerToS
 use Rattle.wal_follow.specs.declared.fault.Broken.{Broken}
 use Rattle.wal_follow.specs.declared.fault.Broken.TheVariants.{Salts, Short}
 use Rattle.wal_follow.specs.declared.fault.FollowFault.{FollowFault}
-use Rattle.wal_follow.specs.declared.fault.FollowFault.TheVariants.{Header, SizesDiffer, WalTooLong, TooLarge, GateBroken, Live, Memory}
+use Rattle.wal_follow.specs.declared.fault.FollowFault.TheVariants.{Header, SizesDiffer, WalTooLong, TooLarge}
+use Rattle.wal_follow.specs.declared.fault.FollowFault.TheVariants.{GateBroken, Live, Memory}
 use Rattle.std.proofs.lemmas.Bool.{and_parts, and_from, eqb-true, eq-eqb}
 use Rattle.wal_follow.specs.Following.{is_in_log, FitsFoundMark, FitsTarget, Fits}
 use Rattle.wal_follow.specs.LogReading.{Fills}

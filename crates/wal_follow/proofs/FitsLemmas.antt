@@ -1,5 +1,6 @@
 -- A follower that fits goes on fitting while the gate is held.
-use Rattle.std.proofs.Common.{◌≡◌, ℕ, false, List, ◌∷◌, ◌++◌, length, take, Option, Some, Ok, sym, ap, subst, ◌∙◌, append_assoc, arith, length-append}
+use Rattle.std.proofs.Common.{◌≡◌, ℕ, false, List, ◌∷◌, ◌++◌, length, take, Option, Some, Ok, sym, ap, subst, ◌∙◌}
+use Rattle.std.proofs.Common.{append_assoc, arith, length-append}
 use Rattle.std.proofs.lemmas.List.{take-append-le}
 use Rattle.ls_base.specs.declared.entry.Entry.{Entry}
 use Rattle.ls_base.specs.declared.mark.Mark.{Mark}
@@ -23,7 +24,8 @@ use Rattle.snapshot_read.specs.Offsets.{offset_in}
 use Rattle.wal_follow.specs.declared.following.Following.{Following}
 use Rattle.wal_follow.specs.declared.following.Target.{Target}
 use Rattle.wal_follow.specs.PieceLaws.{StandsBefore}
-use Rattle.wal_follow.specs.Following.{FitsPassed, FitsRecorded, FitsFoundMark, FitsFoundRest, FitsTarget, FitsCalm, Fits}
+use Rattle.wal_follow.specs.Following.{FitsPassed, FitsRecorded, FitsFoundMark, FitsFoundRest, FitsTarget, FitsCalm}
+use Rattle.wal_follow.specs.Following.{Fits}
 use Rattle.wal_follow.proofs.ReadLemmas.{keeps_hold}
 
 -- ---- logs that grow

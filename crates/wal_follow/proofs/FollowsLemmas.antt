@@ -1,5 +1,6 @@
 -- What a follower of a live database comes to, step by step.
-use Rattle.std.proofs.Common.{◌≡◌, ℕ, ◌≤◌, Bool, true, false, List, take, Option, Some, None, Result, Ok, Err, refl, sym, ap, subst, ◌∙◌, inl, inr, arith}
+use Rattle.std.proofs.Common.{◌≡◌, ℕ, ◌≤◌, Bool, true, false, List, take, Option, Some, None, Result, Ok, Err, refl}
+use Rattle.std.proofs.Common.{sym, ap, subst, ◌∙◌, inl, inr, arith}
 use Rattle.std.specs.Prelude.{◌⊎◌}
 use Rattle.ls_base.specs.declared.mark.Mark.{Mark}
 use Rattle.ls_base.specs.declared.place.Place.{Place}
@@ -12,10 +13,13 @@ use Rattle.wal_follow.specs.declared.answer.Found.{Found}
 use Rattle.wal_follow.specs.declared.answer.Next.{Next}
 use Rattle.wal_follow.specs.declared.answer.Next.TheVariants.{Same, Piece, Lost}
 use Rattle.wal_follow.specs.declared.fault.FollowFault.{FollowFault}
-use Rattle.wal_follow.specs.declared.fault.FollowFault.TheVariants.{Header, SizesDiffer, WalTooLong, TooLarge, GateBroken, Live, Memory}
+use Rattle.wal_follow.specs.declared.fault.FollowFault.TheVariants.{Header, SizesDiffer, WalTooLong, TooLarge}
+use Rattle.wal_follow.specs.declared.fault.FollowFault.TheVariants.{GateBroken, Live, Memory}
 use Rattle.wal_follow.specs.declared.following.Following.{Following}
 use Rattle.wal_follow.specs.declared.following.Target.{Target}
-use Rattle.wal_follow.specs.Answers.{SaysSize, IsLostAtMark, IsLostAtRest, AreSince, LosesAtMark, LosesAtRest, LeadsOn, StaysAtMark, StaysAtRest, Answers, IsAnswerToHeader, IsAnswerToLength, AnswersInOrder}
+use Rattle.wal_follow.specs.Answers.{SaysSize, IsLostAtMark, IsLostAtRest, AreSince, LosesAtMark, LosesAtRest, LeadsOn}
+use Rattle.wal_follow.specs.Answers.{StaysAtMark, StaysAtRest, Answers, IsAnswerToHeader, IsAnswerToLength}
+use Rattle.wal_follow.specs.Answers.{AnswersInOrder}
 use Rattle.wal_follow.specs.Asks.{IsHeaderAnswer, IsLengthAnswer, HasHead, AsksHeader, HasLength, AsksLength}
 use Rattle.wal_follow.specs.Calls.{Follows}
 use Rattle.wal_follow.specs.Following.{Fits}

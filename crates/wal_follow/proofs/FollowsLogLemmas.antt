@@ -1,5 +1,6 @@
 -- What a follower of a live database comes to once its log is gathered.
-use Rattle.std.proofs.Common.{◌≡◌, ℕ, ◌≤◌, false, List, length, take, Option, Some, None, Result, Ok, Err, refl, sym, ap, subst, ◌∙◌, inl, inr, arith, length-append}
+use Rattle.std.proofs.Common.{◌≡◌, ℕ, ◌≤◌, false, List, length, take, Option, Some, None, Result, Ok, Err, refl, sym}
+use Rattle.std.proofs.Common.{ap, subst, ◌∙◌, inl, inr, arith, length-append}
 use Rattle.std.proofs.lemmas.Bool.{cases_eq}
 use Rattle.ls_base.specs.declared.mark.Mark.{Mark}
 use Rattle.ls_base.specs.Limits.{log_limit}
@@ -9,7 +10,8 @@ use Rattle.live_gate.specs.Step.{IsWriterStep}
 use Rattle.live_gate.proofs.StepLemmas.{step_join}
 use Rattle.wal_follow.specs.declared.answer.Next.{Next}
 use Rattle.wal_follow.specs.declared.fault.FollowFault.{FollowFault}
-use Rattle.wal_follow.specs.declared.fault.FollowFault.TheVariants.{Header, SizesDiffer, WalTooLong, TooLarge, GateBroken, Live, Memory}
+use Rattle.wal_follow.specs.declared.fault.FollowFault.TheVariants.{Header, SizesDiffer, WalTooLong, TooLarge}
+use Rattle.wal_follow.specs.declared.fault.FollowFault.TheVariants.{GateBroken, Live, Memory}
 use Rattle.wal_follow.specs.declared.following.Following.{Following}
 use Rattle.wal_follow.specs.declared.gather.Gathered.{Gathered}
 use Rattle.wal_follow.specs.Answers.{SaysSize, FindsRest, Answers, AnswersInOrder, IsReadBehind}
@@ -22,7 +24,8 @@ use Rattle.wal_follow.specs.Gathers.{IsGatherAnswer}
 use Rattle.wal_follow.specs.LogGathering.{GathersNone, MayGather, Gathers}
 use Rattle.wal_follow.specs.Steps.{IsMarkAnswer, IsRestAnswer}
 use Rattle.wal_follow.proofs.AtRestLemmas.{fits_same}
-use Rattle.wal_follow.proofs.FollowsLemmas.{forgotten, known_forgotten, fits_forgotten, answers_same, some_number, in_order, mark_header, mark_length, rest_header, rest_length}
+use Rattle.wal_follow.proofs.FollowsLemmas.{forgotten, known_forgotten, fits_forgotten, answers_same, some_number}
+use Rattle.wal_follow.proofs.FollowsLemmas.{in_order, mark_header, mark_length, rest_header, rest_length}
 use Rattle.wal_follow.proofs.ReadLemmas.{keeps_hold, still_gated}
 
 module _ (f : Following) (size n : ℕ) (old first mid : LiveRecord) (fits : Fits f old.database)

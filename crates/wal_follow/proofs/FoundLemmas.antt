@@ -1,5 +1,6 @@
 -- What a follower that found a mark answers.
-use Rattle.std.proofs.Common.{◌≡◌, ℕ, ◌+◌, ◌*◌, ◌<◌, ◌≤◌, Bool, true, false, List, [], length, Option, Some, None, Ok, Err, refl, sym, ap, subst, ◌∙◌, inl, inr, arith}
+use Rattle.std.proofs.Common.{◌≡◌, ℕ, ◌+◌, ◌*◌, ◌<◌, ◌≤◌, Bool, true, false, List, [], length, Option, Some, None, Ok}
+use Rattle.std.proofs.Common.{Err, refl, sym, ap, subst, ◌∙◌, inl, inr, arith}
 use Rattle.std.specs.Prelude.{◌⊎◌, ◌≢◌, if◌then◌else◌}
 use Rattle.ls_base.specs.Limits.{database_limit}
 use Rattle.ls_base.specs.declared.mark.Mark.{Mark}
@@ -26,7 +27,8 @@ use Rattle.wal_follow.specs.Piece.{frames_between, least_size}
 use Rattle.wal_follow.specs.Steps.{behind}
 use Rattle.wal_follow.specs.WantedPages.{AreListed}
 use Rattle.wal_follow.proofs.ChangedLemmas.{are_wanted}
-use Rattle.wal_follow.proofs.SinceLemmas.{least_since-met, IsMet, IsUnmet, cases_met, IsMarkMet, mark_met, no_mark_met, earlier_mark}
+use Rattle.wal_follow.proofs.SinceLemmas.{least_since-met, IsMet, IsUnmet, cases_met, IsMarkMet, mark_met, no_mark_met}
+use Rattle.wal_follow.proofs.SinceLemmas.{earlier_mark}
 
 -- ---- values that are there
 

@@ -1,5 +1,7 @@
 -- Frames that are gathered from a log.
-use Rattle.std.proofs.Common.{◌≡◌, ℕ, zero, suc, ◌+◌, ◌-◌, ◌*◌, ◌/◌, ◌<◌, ◌≤◌, min, Bool, cond, List, [], ◌∷◌, ◌++◌, length, take, Option, Some, None, Ok, refl, sym, ap, subst, ◌∙◌, inl, inr, append_assoc, arith, length-append, get_or}
+use Rattle.std.proofs.Common.{◌≡◌, ℕ, zero, suc, ◌+◌, ◌-◌, ◌*◌, ◌/◌, ◌<◌, ◌≤◌, min, Bool, cond, List, [], ◌∷◌, ◌++◌}
+use Rattle.std.proofs.Common.{length, take, Option, Some, None, Ok, refl, sym, ap, subst, ◌∙◌, inl, inr, append_assoc}
+use Rattle.std.proofs.Common.{arith, length-append, get_or}
 use Rattle.std.specs.Prelude.{◌≢◌, ◌==◌, if◌then◌else◌}
 use Rattle.std.specs.Option.{option_or}
 use Rattle.std.specs.FinMap.{get, insert}
@@ -23,7 +25,8 @@ use Rattle.snapshot_read.specs.Offsets.{offset_in}
 use Rattle.snapshot_read.specs.PageOffsets.{Offsets}
 use Rattle.wal_follow.specs.declared.gathering.Gathering.{Gathering}
 use Rattle.wal_follow.specs.declared.gathering.PageOffset.{PageOffset}
-use Rattle.wal_follow.specs.Gathering.{offsets_of, is_place, least_with, least_since, HasGathered, put_all, frame_offset, AddsFrame}
+use Rattle.wal_follow.specs.Gathering.{offsets_of, is_place, least_with, least_since, HasGathered, put_all}
+use Rattle.wal_follow.specs.Gathering.{frame_offset, AddsFrame}
 use Rattle.wal_follow.specs.Offset.{offset_limit}
 
 -- ---- offsets put in
@@ -175,7 +178,8 @@ module _ (base : ℕ) (initial : Option ℕ) (g : Gathering) (log : List ℕ) (w
         pending = ap (λ v. v.items) pending ∙ was.pending
             ∙ ap (λ (k : WalHeader). offsets_of k (end_of k (was.earlier ++ was.since)) was.behind) (sym head);
         none = was.none;
-        least = least ∙ was.least ∙ ap (λ (k : WalHeader). least_since k g.place initial was.earlier was.since) (sym head)
+        least = least ∙ was.least ∙ ap (λ (k : WalHeader). least_since k g.place initial was.earlier was.since)
+            (sym head)
             ∙ ap (λ (p : Option Place). least_since next.scan.head p initial was.earlier was.since) (sym place);
         at_mark = λ q is. ap (λ (k : WalHeader). frames_up_to k q) head ∙ was.at_mark q (sym last ∙ is);
         unmarked = λ is. was.unmarked (sym last ∙ is);

@@ -1,5 +1,6 @@
 -- A follower's state from call to call.
-use Rattle.std.proofs.Common.{◌≡◌, ℕ, ◌+◌, ◌^◌, ◌<◌, ◌≤◌, Bool, true, false, length, Option, Some, None, refl, sym, ap, ◌∙◌, inl, inr, arith, nat_cmp}
+use Rattle.std.proofs.Common.{◌≡◌, ℕ, ◌+◌, ◌^◌, ◌<◌, ◌≤◌, Bool, true, false, length, Option, Some, None, refl, sym, ap}
+use Rattle.std.proofs.Common.{◌∙◌, inl, inr, arith, nat_cmp}
 use Rattle.std.specs.Prelude.{option_map, if◌then◌else◌}
 use Rattle.std.specs.Option.{option_or}
 use Rattle.std.specs.FinMap.{get, empty, get-empty}
@@ -107,7 +108,8 @@ module _ (f g : Following) (target : Target) (stored : IsStored f target g) (d :
     learned_there place pages at many =
         let same : place ≡ place_of m.mark = some_place place (place_of m.mark) (sym at ∙ stored.place
         ∙ ap (λ (p : Place). Some p) m.place) in
-        let count : m.mark.commit ≡ pages = some_number (sym (stored.pages ∙ ap (λ (n : ℕ). Some n) m.commit) ∙ many) in (
+        let count : m.mark.commit ≡ pages = some_number (sym (stored.pages ∙ ap (λ (n : ℕ). Some n) m.commit) ∙ many)
+        in (
           view_at d.file d.committed m.mark,
           ap (state_at d.history) same
               ∙ marks_have_their_view d m.mark legal calm m.is_mark copied,

@@ -1,5 +1,6 @@
 -- What was gathered of a log that was read over all that was committed at first.
-use Rattle.std.proofs.Common.{◌≡◌, ℕ, ◌+◌, ◌-◌, ◌*◌, ◌/◌, ◌≤◌, Bool, true, false, List, [], ◌∷◌, ◌++◌, length, take, drop, Option, Some, None, Ok, refl, sym, ap, subst, ◌∙◌, append_assoc, arith, nat_cmp}
+use Rattle.std.proofs.Common.{◌≡◌, ℕ, ◌+◌, ◌-◌, ◌*◌, ◌/◌, ◌≤◌, Bool, true, false, List, [], ◌∷◌, ◌++◌, length, take}
+use Rattle.std.proofs.Common.{drop, Option, Some, None, Ok, refl, sym, ap, subst, ◌∙◌, append_assoc, arith, nat_cmp}
 use Rattle.std.specs.Prelude.{option_map}
 use Rattle.std.specs.FinMap.{get, get-empty}
 use Rattle.std.specs.List.{last_or}
@@ -226,7 +227,8 @@ module _ (f after : Following) (g : Gathering) (first new : Database) (log : Lis
                 recorded = recorded;
                 passed = passed;
                 a = a;
-                is_mark = found_mark first.committed new.committed log covers checked h accepted d.mark last a is_a order;
+                is_mark = found_mark first.committed new.committed log covers checked h accepted d.mark last a is_a
+                    order;
                 place = at;
                 pages = pages;
                 order = order;
@@ -238,7 +240,8 @@ module _ (f after : Following) (g : Gathering) (first new : Database) (log : Lis
                 least = is.1 ∙ was.least
                     ∙ ap (λ (o : Option Place). least_since h o (Some a.commit) was.earlier was.since) place
                     ∙ ap (λ (fs : List (List ℕ)). least_since h None (Some a.commit) fs was.since) (sym front)
-                    ∙ ap (least_since h None (Some a.commit) (frames_to h (valid_frames new.committed) a)) (sym between);
+                    ∙ ap (least_since h None (Some a.commit) (frames_to h (valid_frames new.committed) a))
+                    (sym between);
               });
         }
 

@@ -1,5 +1,6 @@
 -- A log that is gathered, whole or from the recorded mark on.
-use Rattle.std.proofs.Common.{◌≡◌, ℕ, ◌+◌, ◌≤◌, Bool, true, false, List, [], ◌∷◌, length, take, Option, Some, None, Result, Ok, Err, refl, sym, ap, subst, ◌∙◌, arith}
+use Rattle.std.proofs.Common.{◌≡◌, ℕ, ◌+◌, ◌≤◌, Bool, true, false, List, [], ◌∷◌, length, take, Option, Some, None}
+use Rattle.std.proofs.Common.{Result, Ok, Err, refl, sym, ap, subst, ◌∙◌, arith}
 use Rattle.std.specs.Prelude.{option_map, if◌then◌else◌}
 use Rattle.std.specs.List.{Contains}
 use Rattle.std.specs.FinMap.{get}
@@ -26,7 +27,8 @@ use Rattle.wal_follow.specs.declared.following.Following.{Following}
 use Rattle.wal_follow.specs.declared.following.Target.{Target}
 use Rattle.wal_follow.specs.declared.gather.Gathered.{Gathered}
 use Rattle.wal_follow.specs.Following.{is_in_log, FitsTarget, FitsCalm, Fits}
-use Rattle.wal_follow.specs.LogGathering.{ReadsHead, AsksHead, GathersLog, IsRecordedAt, GathersFrom, MayGather, Gathers}
+use Rattle.wal_follow.specs.LogGathering.{ReadsHead, AsksHead, GathersLog, IsRecordedAt, GathersFrom, MayGather}
+use Rattle.wal_follow.specs.LogGathering.{Gathers}
 use Rattle.wal_follow.specs.Steps.{recorded_mark, kept_mark}
 use Rattle.wal_follow.proofs.ConfirmLemmas.{mark_salts}
 use Rattle.wal_follow.proofs.FitsLemmas.{fits_stays}

@@ -1,5 +1,6 @@
 -- The frames of a log that are read and gathered while its writer moves.
-use Rattle.std.proofs.Common.{◌≡◌, ℕ, ◌+◌, ◌-◌, ◌*◌, ◌≤◌, true, false, List, [], ◌++◌, length, take, drop, Option, Some, None, Result, Ok, Err, refl, sym, ap, subst, ◌∙◌, inl, inr, arith, length-append}
+use Rattle.std.proofs.Common.{◌≡◌, ℕ, ◌+◌, ◌-◌, ◌*◌, ◌≤◌, true, false, List, [], ◌++◌, length, take, drop, Option, Some}
+use Rattle.std.proofs.Common.{None, Result, Ok, Err, refl, sym, ap, subst, ◌∙◌, inl, inr, arith, length-append}
 use Rattle.std.specs.Prelude.{◌⊎◌, option_map}
 use Rattle.std.proofs.lemmas.List.{length-take-le}
 use Rattle.ls_base.specs.declared.mark.Mark.{Mark}
@@ -28,8 +29,10 @@ use Rattle.wal_follow.specs.Gathers.{IsGathered}
 use Rattle.wal_follow.specs.LogGathering.{WasCommitted, ReadsHead, GathersWhat, GathersLog, IsRecordedAt, GathersFrom}
 use Rattle.wal_follow.specs.LogReading.{HasRead, IsEnough, ReadsOn}
 use Rattle.wal_follow.proofs.FitsLemmas.{still_accepted, still_mark, same_front}
-use Rattle.wal_follow.proofs.LogFoundLemmas.{IsOver, head_over, all_none, all_some, behind_some, behind_none, begun, begun_at, end_at}
-use Rattle.wal_follow.proofs.HeaderLemmas.{agrees_prefix, front_agrees, aim_asks, aim_taken, aimed_checked, still_committed}
+use Rattle.wal_follow.proofs.LogFoundLemmas.{IsOver, head_over, all_none, all_some, behind_some, behind_none, begun}
+use Rattle.wal_follow.proofs.LogFoundLemmas.{begun_at, end_at}
+use Rattle.wal_follow.proofs.HeaderLemmas.{agrees_prefix, front_agrees, aim_asks, aim_taken, aimed_checked}
+use Rattle.wal_follow.proofs.HeaderLemmas.{still_committed}
 use Rattle.wal_follow.proofs.ReadLemmas.{agree_append, agree_front, keeps_hold}
 
 -- ---- from the header on

@@ -10,7 +10,8 @@ use Rattle.wal_follow.specs.declared.following.Following.{Following}
 use Rattle.wal_follow.specs.declared.gathering.Gathering.{Gathering}
 use Rattle.wal_follow.specs.Gathering.{Begins, KeepsBase}
 use Rattle.wal_follow.specs.Gathers.{KeepsPlaces, IsHeadAnswer, IsGatherAnswer}
-use Rattle.wal_follow.specs.declared.fault.FollowFault.TheVariants.{Header, SizesDiffer, WalTooLong, TooLarge, GateBroken, Live, Memory}
+use Rattle.wal_follow.specs.declared.fault.FollowFault.TheVariants.{Header, SizesDiffer, WalTooLong, TooLarge}
+use Rattle.wal_follow.specs.declared.fault.FollowFault.TheVariants.{GateBroken, Live, Memory}
 use Rattle.wal_follow.specs.Calls.{FollowHasCause}
 use Rattle.wal_follow.proofs.KeptLemmas.{none_within}
 

@@ -1,5 +1,6 @@
 -- The pages of what was found.
-use Rattle.std.proofs.Common.{◌≡◌, ℕ, ◌+◌, ◌-◌, ◌*◌, ◌^◌, ◌≤◌, Bool, false, List, length, take, drop, Option, Some, None, Result, Ok, Err, refl, sym, ap, subst, ◌∙◌, arith}
+use Rattle.std.proofs.Common.{◌≡◌, ℕ, ◌+◌, ◌-◌, ◌*◌, ◌^◌, ◌≤◌, Bool, false, List, length, take, drop, Option, Some}
+use Rattle.std.proofs.Common.{None, Result, Ok, Err, refl, sym, ap, subst, ◌∙◌, arith}
 use Rattle.std.specs.Prelude.{option_map, unwrap_or, IsErrOf, OnOk, is_ok}
 use Rattle.std.specs.FinMap.{get}
 use Rattle.std.specs.Simd.{first_chunks}
@@ -23,7 +24,8 @@ use Rattle.ls_base.specs.declared.place.Place.TheVariants.{Wal, Rest}
 use Rattle.ls_base.specs.State.{State, page_of}
 use Rattle.wal_frames.specs.declared.header.WalHeader.{WalHeader}
 use Rattle.wal_frames.specs.Marks.{IsMark, place_of}
-use Rattle.wal_frames.specs.View.{frames_up_to, frames_to, frames_page, file_page, unless_locked, view_at, view_at_rest, page_at_rest, file_pages}
+use Rattle.wal_frames.specs.View.{frames_up_to, frames_to, frames_page, file_page, unless_locked, view_at, view_at_rest}
+use Rattle.wal_frames.specs.View.{page_at_rest, file_pages}
 use Rattle.wal_frames.proofs.LogLemmas.{one_mark_an_end, ends_within}
 use Rattle.wal_frames.proofs.ViewLemmas.{view_by_front, is_view, frames_to_chunks, mark_long, page_made}
 use Rattle.live_gate.specs.LiveRecord.{LiveRecord}

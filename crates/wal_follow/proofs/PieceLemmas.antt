@@ -1,5 +1,7 @@
 -- A piece leads from the state at its place to the view at its mark.
-use Rattle.std.proofs.Common.{◌≡◌, ℕ, ◌+◌, ◌-◌, ◌*◌, ◌/◌, ◌≤◌, List, [], ◌∷◌, ◌++◌, length, take, drop, map, Option, Some, None, Result, Ok, refl, sym, ap, subst, ◌∙◌, inl, inr, append_assoc, arith, length-append}
+use Rattle.std.proofs.Common.{◌≡◌, ℕ, ◌+◌, ◌-◌, ◌*◌, ◌/◌, ◌≤◌, List, [], ◌∷◌, ◌++◌, length, take, drop, map, Option}
+use Rattle.std.proofs.Common.{Some, None, Result, Ok, refl, sym, ap, subst, ◌∙◌, inl, inr, append_assoc, arith}
+use Rattle.std.proofs.Common.{length-append}
 use Rattle.std.specs.Prelude.{unwrap_or}
 use Rattle.std.specs.List.{Contains, flat_map, slice_get, range_with_len}
 use Rattle.std.proofs.lemmas.Bool.{cases_lt}
@@ -25,14 +27,16 @@ use Rattle.wal_frames.proofs.LogLemmas.{no_marks, one_mark_an_end}
 use Rattle.wal_frames.proofs.MarkLemmas.{marks-append, marks_are, valid_is}
 use Rattle.wal_frames.proofs.ViewLemmas.{view_is}
 use Rattle.live_gate.specs.LiveRecord.{Database}
-use Rattle.live_gate.specs.Legal.{Commit, all_frames, commit_mark, FitsCommit, AreEntries, HasCommits, IsRecorded, IsLegal, last_state}
+use Rattle.live_gate.specs.Legal.{Commit, all_frames, commit_mark, FitsCommit, AreEntries, HasCommits, IsRecorded}
+use Rattle.live_gate.specs.Legal.{IsLegal, last_state}
 use Rattle.live_gate.proofs.CommitLemmas.{entries_places, no_log}
 use Rattle.live_gate.proofs.MoveLemmas.{last_state-append}
 use Rattle.live_gate.proofs.StillLegalLemmas.{frames_here}
 use Rattle.wal_follow.specs.Piece.{frames_between, least_size, IsPieceSince}
 use Rattle.wal_follow.specs.PieceLaws.{Makes, LeadsFrom, IsPieceBetween, AreInOrder, StandsBefore}
 use Rattle.wal_follow.proofs.MakesLemmas.{piece_makes}
-use Rattle.wal_follow.proofs.CommitLemmas.{CommitOf, commit_of, first_size, ends_upto, kept_page, state_after, state_after-last}
+use Rattle.wal_follow.proofs.CommitLemmas.{CommitOf, commit_of, first_size, ends_upto, kept_page, state_after}
+use Rattle.wal_follow.proofs.CommitLemmas.{state_after-last}
 
 -- ---- lists
 

@@ -1,5 +1,7 @@
 -- The frames since a place, and the least number of pages since.
-use Rattle.std.proofs.Common.{◌≡◌, ℕ, ◌-◌, ◌*◌, ◌/◌, ◌≤◌, min, Bool, true, false, cond, List, [], ◌∷◌, ◌++◌, length, take, drop, Option, Some, None, Ok, refl, sym, ap, subst, ◌∙◌, inl, inr, append_assoc, arith, length-take}
+use Rattle.std.proofs.Common.{◌≡◌, ℕ, ◌-◌, ◌*◌, ◌/◌, ◌≤◌, min, Bool, true, false, cond, List, [], ◌∷◌, ◌++◌, length}
+use Rattle.std.proofs.Common.{take, drop, Option, Some, None, Ok, refl, sym, ap, subst, ◌∙◌, inl, inr, append_assoc}
+use Rattle.std.proofs.Common.{arith, length-take}
 use Rattle.std.specs.Prelude.{◌⊎◌, ◌≢◌, ◌==◌}
 use Rattle.std.specs.List.{Contains}
 use Rattle.std.proofs.lemmas.Bool.{eq-eqb, ne_eqb, cases_eq}
@@ -128,7 +130,8 @@ module _ (h : WalHeader) (place : Option Place) (before : List (List ℕ)) (fram
           ∙ least_since-met h place (commit_size frame) (before ++ frame ∷ []) frames;
     })
     commits_by false is rest =
-        passes_by (least_is false is) (λ m here here_is. other m (subst (λ (b : Bool). Contains (cond b [] (own ∷ [])) m)
+        passes_by (least_is false is) (λ m here here_is. other m
+        (subst (λ (b : Bool). Contains (cond b [] (own ∷ [])) m)
         (ne_eqb (commit_size frame) 0 some) here) here_is) rest
       where
         other : (m : Mark) → Contains (own ∷ []) m → place ≡ Some (place_of m) → ⊥

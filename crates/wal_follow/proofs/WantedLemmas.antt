@@ -1,12 +1,16 @@
 -- The numbers of the pages of a piece.
-use Rattle.std.proofs.Common.{◌≡◌, ℕ, zero, suc, ◌+◌, ◌<◌, ◌≤◌, min, Bool, true, false, cond, List, [], ◌∷◌, ◌++◌, length, take, Option, Some, None, refl, sym, ap, subst, ◌∙◌, get_or, inl, inr, arith, length-take}
+use Rattle.std.proofs.Common.{◌≡◌, ℕ, zero, suc, ◌+◌, ◌<◌, ◌≤◌, min, Bool, true, false, cond, List, [], ◌∷◌, ◌++◌}
+use Rattle.std.proofs.Common.{length, take, Option, Some, None, refl, sym, ap, subst, ◌∙◌, get_or, inl, inr, arith}
+use Rattle.std.proofs.Common.{length-take}
 use Rattle.std.specs.Prelude.{◌≢◌, ◌⊎◌, ◌==◌, ◌||◌, nat_lt, is_some}
 use Rattle.std.specs.List.{All, Contains, filter, slice_get}
 use Rattle.std.specs.FinMap.{get, keys, contains_key-keys}
 use Rattle.std.proofs.lemmas.Bool.{cases_eq, cases_lt, ltb-true, ltb-false, lt-ltb, le-ltb, eqb-true, eqb-false, ne_eqb}
 use Rattle.std.specs.List.Sorted.{IsStrictlyIncreasing}
 use Rattle.std.proofs.lemmas.List.{get_or-take, length_push, get_or_append_left, get_or_push}
-use Rattle.std.proofs.lemmas.List.Elements.{All-filter, All-contains, filter_passes, Contains-append_right, Contains-append_cases, Contains-get_or, Contains-push, Contains-push_cases, Contains-append_left}
+use Rattle.std.proofs.lemmas.List.Elements.{All-filter, All-contains, filter_passes, Contains-append_right}
+use Rattle.std.proofs.lemmas.List.Elements.{Contains-append_cases, Contains-get_or, Contains-push, Contains-push_cases}
+use Rattle.std.proofs.lemmas.List.Elements.{Contains-append_left}
 use Rattle.std.proofs.lemmas.List.Kept.{AllPairs-from_increasing, IsStrictlyIncreasing-filter}
 use Rattle.std.proofs.lemmas.Map.Views.{Contains-from_any}
 use Rattle.ls_base.proofs.MapLemmas.{keys_increase}
@@ -87,7 +91,12 @@ module _ (offsets : Offsets) (behind size least : ℕ) where
     rising = listed.rising;
     each = λ p. (
       (λ among. let was = (listed.each p).0 among in
-          record { from = was.from; within = omega (arith, was.within); unlocked = was.unlocked; changed = was.changed }),
+          record {
+            from = was.from;
+            within = omega (arith, was.within);
+            unlocked = was.unlocked;
+            changed = was.changed;
+          }),
       (λ is. (listed.each p).1 (record {
         from = is.from;
         within = not_last p is.within (λ same. is.unlocked (same ∙ lock));

@@ -1,5 +1,6 @@
 -- What `next` finds, and what it answers.
-use Rattle.std.specs.Prelude.{◌≡◌, ◌≢◌, ℕ, ◌+◌, ◌-◌, ◌*◌, ◌<◌, ◌≤◌, ◌↔◌, Bool, true, false, List, [], take, Option, Some, None, Result, Ok, Err, ◌⊎◌}
+use Rattle.std.specs.Prelude.{◌≡◌, ◌≢◌, ℕ, ◌+◌, ◌-◌, ◌*◌, ◌<◌, ◌≤◌, ◌↔◌, Bool, true, false, List, [], take, Option}
+use Rattle.std.specs.Prelude.{Some, None, Result, Ok, Err, ◌⊎◌}
 use Rattle.std.specs.List.{Contains}
 use Rattle.std.specs.List.Sorted.{IsStrictlyIncreasing}
 use Rattle.ls_base.specs.declared.mark.Mark.{Mark}
@@ -18,7 +19,8 @@ use Rattle.wal_follow.specs.declared.answer.Next.{Next}
 use Rattle.wal_follow.specs.declared.answer.Next.TheVariants.{Same, Piece, Lost}
 use Rattle.wal_follow.specs.declared.answer.Wanted.TheVariants.{All, Listed}
 use Rattle.wal_follow.specs.declared.fault.FollowFault.{FollowFault}
-use Rattle.wal_follow.specs.declared.fault.FollowFault.TheVariants.{Header, SizesDiffer, WalTooLong, TooLarge, GateBroken, Live, Memory}
+use Rattle.wal_follow.specs.declared.fault.FollowFault.TheVariants.{Header, SizesDiffer, WalTooLong, TooLarge}
+use Rattle.wal_follow.specs.declared.fault.FollowFault.TheVariants.{GateBroken, Live, Memory}
 use Rattle.wal_follow.specs.declared.following.Following.{Following}
 use Rattle.wal_follow.specs.Piece.{frames_between, least_size, IsChanged}
 

@@ -5,7 +5,8 @@ use Rattle.db_page.specs.DatabaseHeader.{IsFirstFault}
 use Rattle.live_gate.specs.LiveRecord.{LiveRecord}
 use Rattle.live_gate.specs.Step.{IsWriterStep}
 use Rattle.wal_follow.specs.declared.fault.FollowFault.{FollowFault}
-use Rattle.wal_follow.specs.declared.fault.FollowFault.TheVariants.{Header, SizesDiffer, WalTooLong, TooLarge, GateBroken, Live, Memory}
+use Rattle.wal_follow.specs.declared.fault.FollowFault.TheVariants.{Header, SizesDiffer, WalTooLong, TooLarge}
+use Rattle.wal_follow.specs.declared.fault.FollowFault.TheVariants.{GateBroken, Live, Memory}
 use Rattle.wal_follow.specs.Answers.{SaysSize}
 
 -- the answers that there are

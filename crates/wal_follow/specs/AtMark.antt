@@ -1,5 +1,6 @@
 -- What was gathered of a log that has a commit, and what is answered then.
-use Rattle.std.specs.Prelude.{◌≡◌, ℕ, ◌≤◌, Bool, true, false, [], Option, Some, None, option_map, if◌then◌else◌, Result, ◌⊎◌}
+use Rattle.std.specs.Prelude.{◌≡◌, ℕ, ◌≤◌, Bool, true, false, [], Option, Some, None, option_map, if◌then◌else◌, Result}
+use Rattle.std.specs.Prelude.{◌⊎◌}
 use Rattle.ls_base.specs.declared.mark.Mark.{Mark}
 use Rattle.ls_base.specs.declared.place.Place.{Place}
 use Rattle.wal_frames.specs.declared.header.WalHeader.{WalHeader}
@@ -69,7 +70,8 @@ pub record GathersMark (f after : Following) (d : Gathered) (old new : Database)
 
 -- ---- what is asked for
 
--- The pages that are to be stored are those that were gathered behind the place, or all where the place isn't in the log
+-- The pages that are to be stored are those that were gathered behind the place, or all where the place isn't in the
+-- log
 -- or its mark wasn't met.
 abbrev pub IsAsked : Following → Gathered → ℕ → Wanted → Type 0
 IsAsked f d size All = (d.least ≡ None) ⊎ (behind f.passed f.place ≡ None)

@@ -1,5 +1,6 @@
 -- What each call of a follower does.
-use Rattle.std.specs.Prelude.{◌≡◌, ◌≢◌, ℕ, ◌-◌, ◌+◌, ◌/◌, ◌≤◌, ◌==◌, ◌&&◌, if◌then◌else◌, Bool, true, false, List, Option, Some, None, Result, Ok, Err, IsOk, IsErrOf, IfOk, OnOk, OnErr}
+use Rattle.std.specs.Prelude.{◌≡◌, ◌≢◌, ℕ, ◌-◌, ◌+◌, ◌/◌, ◌≤◌, ◌==◌, ◌&&◌, if◌then◌else◌, Bool, true, false, List}
+use Rattle.std.specs.Prelude.{Option, Some, None, Result, Ok, Err, IsOk, IsErrOf, IfOk, OnOk, OnErr}
 use Rattle.ls_base.specs.declared.mark.Mark.{Mark}
 use Rattle.ls_base.specs.declared.place.Place.{Place}
 use Rattle.ls_base.specs.declared.place.Place.TheVariants.{Wal, Rest}
@@ -22,7 +23,8 @@ use Rattle.wal_follow.specs.declared.answer.Next.TheVariants.{Same, Piece, Lost}
 use Rattle.wal_follow.specs.declared.fault.Broken.{Broken}
 use Rattle.wal_follow.specs.declared.fault.Broken.TheVariants.{Salts, Short}
 use Rattle.wal_follow.specs.declared.fault.FollowFault.{FollowFault}
-use Rattle.wal_follow.specs.declared.fault.FollowFault.TheVariants.{Header, SizesDiffer, WalTooLong, TooLarge, GateBroken, Live, Memory}
+use Rattle.wal_follow.specs.declared.fault.FollowFault.TheVariants.{Header, SizesDiffer, WalTooLong, TooLarge}
+use Rattle.wal_follow.specs.declared.fault.FollowFault.TheVariants.{GateBroken, Live, Memory}
 use Rattle.wal_follow.specs.declared.following.Following.{Following}
 use Rattle.wal_follow.specs.declared.following.Target.{Target}
 use Rattle.wal_follow.specs.Following.{Fits, is_in_log}

@@ -5,7 +5,8 @@ use Rattle.wal_frames.specs.Marks.{last_mark_of}
 use Rattle.wal_frames.specs.Scanned.{HasTaken}
 use Rattle.snapshot_read.specs.Offsets.{AreWithinLimit}
 use Rattle.wal_follow.specs.declared.fault.FollowFault.{FollowFault}
-use Rattle.wal_follow.specs.declared.fault.FollowFault.TheVariants.{Header, SizesDiffer, WalTooLong, TooLarge, GateBroken, Live, Memory}
+use Rattle.wal_follow.specs.declared.fault.FollowFault.TheVariants.{Header, SizesDiffer, WalTooLong, TooLarge}
+use Rattle.wal_follow.specs.declared.fault.FollowFault.TheVariants.{GateBroken, Live, Memory}
 use Rattle.wal_follow.specs.declared.following.Following.{Following}
 use Rattle.wal_follow.specs.declared.gather.Gathered.{Gathered}
 use Rattle.wal_follow.specs.declared.gathering.Gathering.{Gathering}

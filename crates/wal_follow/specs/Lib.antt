@@ -16,3 +16,4 @@ pub mod Gathers
 pub mod AtMark
 pub mod LogGathering
 pub mod AtRest
+pub mod LogEnd

@@ -1,5 +1,6 @@
 -- What reading the log of a live database gives, from its header on.
-use Rattle.std.specs.Prelude.{◌≡◌, ℕ, ◌+◌, ◌-◌, ◌≤◌, true, false, [], length, Option, Some, None, option_map, Result, Ok, IsOk, IfOk}
+use Rattle.std.specs.Prelude.{◌≡◌, ℕ, ◌+◌, ◌-◌, ◌≤◌, true, false, [], length, Option, Some, None, option_map, Result}
+use Rattle.std.specs.Prelude.{Ok, IsOk, IfOk}
 use Rattle.std.specs.FinMap.{get}
 use Rattle.ls_base.specs.declared.mark.Mark.{Mark}
 use Rattle.ls_base.specs.declared.place.Place.TheVariants.{Wal}

@@ -1,5 +1,6 @@
 -- What reading a log piece by piece gives.
-use Rattle.std.specs.Prelude.{◌≡◌, ℕ, ◌+◌, ◌≤◌, false, List, ◌++◌, length, take, drop, Option, Result, Ok, Err, IsOk, IfOk, OnOk, ◌⊎◌}
+use Rattle.std.specs.Prelude.{◌≡◌, ℕ, ◌+◌, ◌≤◌, false, List, ◌++◌, length, take, drop, Option, Result, Ok, Err, IsOk}
+use Rattle.std.specs.Prelude.{IfOk, OnOk, ◌⊎◌}
 use Rattle.live_gate.specs.declared.fault.LiveFault.{LiveFault}
 use Rattle.live_gate.specs.LiveRecord.{LiveRecord}
 use Rattle.live_gate.specs.LiveCalls.{AgreeInFront, read_offset}
@@ -7,7 +8,8 @@ use Rattle.live_gate.specs.Coincidence.{IsReadByChecksums}
 use Rattle.live_gate.specs.Step.{IsWriterStep}
 use Rattle.snapshot_read.specs.Reading.{IsUnderGate, AsksOfTheLog}
 use Rattle.wal_follow.specs.declared.fault.FollowFault.{FollowFault}
-use Rattle.wal_follow.specs.declared.fault.FollowFault.TheVariants.{Header, SizesDiffer, WalTooLong, TooLarge, GateBroken, Live, Memory}
+use Rattle.wal_follow.specs.declared.fault.FollowFault.TheVariants.{Header, SizesDiffer, WalTooLong, TooLarge}
+use Rattle.wal_follow.specs.declared.fault.FollowFault.TheVariants.{GateBroken, Live, Memory}
 use Rattle.wal_follow.specs.declared.gathering.Gathering.{Gathering}
 use Rattle.wal_follow.specs.Gathering.{HasGathered}
 

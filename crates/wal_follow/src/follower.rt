@@ -1,6 +1,7 @@
 //! The follower of a log.
 
-ghost use Rattle.std.specs.Prelude.{◌≡◌, ◌≤◌, ℕ, Bool, true, false, List, Option, Some, None, option_copied, option_map, if◌then◌else◌};
+ghost use Rattle.std.specs.Prelude.{◌≡◌, ◌≤◌, ℕ, Bool, true, false, List, Option, Some, None, option_copied};
+ghost use Rattle.std.specs.Prelude.{option_map, if◌then◌else◌};
 ghost use Rattle.std.specs.FinMap as map;
 ghost use Rattle.live_gate.specs.LiveRecord.{Database};
 ghost use Rattle.live_gate.specs.Legal.{IsLegal};
@@ -8,6 +9,8 @@ ghost use Rattle.snapshot_read.specs.Reading.{IsUnderGate};
 ghost use Rattle.wal_follow.specs.Following.{Fits, is_in_log};
 ghost use Rattle.wal_follow.specs.Calls as calls;
 ghost use Rattle.wal_follow.specs.Calls.{target_of, frames_of, IsBehindHeader, KnowsNothing};
+ghost use Rattle.wal_follow.specs.LogEnd as log_end;
+ghost use Rattle.wal_follow.specs.LogEnd.{log_end_of};
 
 use crate::answer::Found;
 use crate::following::{Following, Target};
@@ -91,6 +94,17 @@ impl Follower {
         frames_at(self.following.place, self.following.size)
     }
 
+    /// Where the place ends in the log, in bytes from the log's start: the gate is to be held there. `None` for a
+    /// place at rest, for one at which a pass emptied the log, and where there is no place.
+    pub fn log_end(&self) -> Option<u64>
+        ensures { result ≡ log_end_of self.now self.now.passed }
+    {
+        if self.following.passed {
+            return None;
+        }
+        log_end_at(self.following.place)
+    }
+
     /// Makes the found place the recorded one. It is what the last `next` found.
     pub fn stored(&mut self, found: &Found)
         requires found { self.old.found ≡ Some (target_of found.now) }
@@ -129,6 +143,16 @@ fn clear_if(offsets: &mut PageMap, older: bool)
 {
     if older {
         offsets.clear();
+    }
+}
+
+/// Where a place in the log ends.
+fn log_end_at(place: Option<Place>) -> Option<u64>
+    ensures { result ≡ log_end.log_end_at place }
+{
+    match place {
+        Some(Place::Wal { end, .. }) => Some(end),
+        _ => None,
     }
 }
 

@@ -1,6 +1,7 @@
 //! The frames of a log, gathered from one offset on.
 
-ghost use Rattle.std.specs.Prelude.{◌≡◌, ◌<◌, ◌≤◌, ◌+◌, ◌++◌, ◌^◌, [], List, ℕ, Option, Some, None, length, take, IfOk, OnOk};
+ghost use Rattle.std.specs.Prelude.{◌≡◌, ◌<◌, ◌≤◌, ◌+◌, ◌++◌, ◌^◌, [], List, ℕ, Option, Some, None, length, take, IfOk};
+ghost use Rattle.std.specs.Prelude.{OnOk};
 ghost use Rattle.wal_follow.specs.Gathering as spec;
 ghost use Rattle.wal_follow.specs.Gathering.{HasGathered, Begins, KeepsBase, AddsFrame, Commits, is_place, least_with};
 ghost use Rattle.wal_frames.specs.Marks.{place_of as place_at, last_mark_of};

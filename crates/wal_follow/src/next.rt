@@ -1,6 +1,7 @@
 //! What became of a live database since the follower's place.
 
-ghost use Rattle.std.specs.Prelude.{◌≡◌, ◌≤◌, ◌<◌, ◌*◌, ◌^◌, ℕ, List, Option, Some, None, length, OnOk, IfOk, IfErr, if◌then◌else◌};
+ghost use Rattle.std.specs.Prelude.{◌≡◌, ◌≤◌, ◌<◌, ◌*◌, ◌^◌, ℕ, List, Option, Some, None, length, OnOk, IfOk, IfErr};
+ghost use Rattle.std.specs.Prelude.{if◌then◌else◌};
 ghost use Rattle.ls_base.specs.Limits.{database_limit, log_limit};
 ghost use Rattle.wal_follow.specs.Steps as steps;
 ghost use Rattle.wal_follow.specs.declared.fault.FollowFault.TheVariants.{TooLarge};

@@ -4,7 +4,8 @@ use Rattle.ls_base.specs.declared.place.Place.{Place}
 use Rattle.wal_follow.specs.Following.{is_in_log}
 use Rattle.wal_follow.proofs.GoesOnLemmas.{goes_from}
 use Rattle.replica_sync.specs.Reading.{ReadsFound, IsReadFault}
-use Rattle.replica_sync.proofs.ReadingLemmas.{confirmed, unconfirmed, nothing_read, confirm_answer, live_failed, none_failed}
+use Rattle.replica_sync.proofs.ReadingLemmas.{confirmed, unconfirmed, nothing_read, confirm_answer, live_failed}
+use Rattle.replica_sync.proofs.ReadingLemmas.{none_failed}
 use Rattle.replica_sync.proofs.pages.confirm.Goals as goal
 
 pub returns-in-Rest-clause-reads : goal.returns-in-Rest-clause-reads

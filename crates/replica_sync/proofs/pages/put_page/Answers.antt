@@ -4,7 +4,8 @@ use Rattle.wal_follow.proofs.GoesOnLemmas.{goes_from}
 use Rattle.replica_store.proofs.PutLemmas.{err_leaves}
 use Rattle.replica_sync.specs.Reading.{ReadsPage, IsReadFault}
 use Rattle.replica_sync.proofs.PageFileLemmas.{pages_keep}
-use Rattle.replica_sync.proofs.ReadingLemmas.{page_failed, page_read, unlocked, fault_answer, live_failed, store_failed, none_failed, not_store, not_ok}
+use Rattle.replica_sync.proofs.ReadingLemmas.{page_failed, page_read, unlocked, fault_answer, live_failed, store_failed}
+use Rattle.replica_sync.proofs.ReadingLemmas.{none_failed, not_store, not_ok}
 use Rattle.replica_sync.proofs.pages.put_page.Goals as goal
 
 pub page-requires-clause-upto : goal.page-requires-clause-upto

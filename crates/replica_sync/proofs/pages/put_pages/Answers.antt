@@ -23,7 +23,8 @@ loop-at-init g c = record {
   path = refl;
   header = refl;
   sized = c.requires.sized;
-  below = λ k from few. above_none c.args.found.now c.requires.storable c.args.file.now.writer.last k c.requires.begun.first few;
+  below = λ k from few. above_none c.args.found.now c.requires.storable c.args.file.now.writer.last k
+      c.requires.begun.first few;
   moves = moves_stay (g.L.Live.told c.args.live.now);
   fits = c.requires.fits;
   awake = c.requires.awake;
@@ -39,8 +40,10 @@ put_page-requires g c =
     let found = c.args.found.now in
     let inv = c.loop-at.invariant in
     let few = c.loop-at-test.true in
-    let size : c.loop-at.file.writer.header.size ≡ found.size = ap (λ (h : LtxHeader). h.size) inv.header ∙ c.requires.begun.size in
-    let commit : c.loop-at.file.writer.header.commit ≡ found.commit = ap (λ (h : LtxHeader). h.commit) inv.header ∙ c.requires.begun.commit in
+    let size : c.loop-at.file.writer.header.size ≡ found.size = ap (λ (h : LtxHeader). h.size) inv.header
+    ∙ c.requires.begun.size in
+    let commit : c.loop-at.file.writer.header.commit ≡ found.commit = ap (λ (h : LtxHeader). h.commit) inv.header
+    ∙ c.requires.begun.commit in
     let within : c.loop-at.at ≤ count_of found = omega (arith, few, c.count_of-at-end.ensures) in
     let put = inv.puts c.requires.begun.begun c.requires.begun.has in
     record {
@@ -48,7 +51,8 @@ put_page-requires g c =
       sized = inv.sized;
       fits = inv.fits;
       writing = record { begun = c.requires.begun.begun; pages = put.pages; has = put.has };
-      rises = let below = inv.below c.loop-at.at (omega arith) (omega (arith, few, c.count_of-at-end.ensures)) in omega (arith, below, c.number_at-number.ensures);
+      rises = let below = inv.below c.loop-at.at (omega arith) (omega (arith, few, c.count_of-at-end.ensures)) in
+          omega (arith, below, c.number_at-number.ensures);
       stored = page_stored found c.requires.storable c.loop-at.file.writer.header c.number_at-number.result c.loop-at.at
           (omega (arith, few, c.count_of-at-end.ensures)) c.number_at-number.ensures size commit;
       size = size;

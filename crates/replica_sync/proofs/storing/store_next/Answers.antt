@@ -59,7 +59,8 @@ returns-in_err-store_found-clause-err g c =
         c.in_ok-name.ensures.valid,
         c.in_ok-name.ensures.ok,
         subst (λ (n : ℕ). MayStoreFound c.args.found.now c.in_ok-name.name n (g.S.Disk.told c.args.store.now)
-            (g.S.Disk.told c.store_found.new.store) (g.L.Live.told c.args.live.now) (g.L.Live.told c.store_found.new.live))
+            (g.S.Disk.told c.store_found.new.store) (g.L.Live.told c.args.live.now)
+            (g.L.Live.told c.store_found.new.live))
             c.next_moment-moment.ensures c.in_err-store_found.ensures.err,
       );
     })

@@ -6,14 +6,16 @@ use Rattle.live_gate.specs.Legal.{IsLegal}
 use Rattle.wal_follow.specs.Following.{Fits}
 use Rattle.wal_follow.specs.Calls.{Follows, found_in}
 use Rattle.wal_follow.proofs.GoesOnLemmas.{goes_from, goes_join}
-use Rattle.replica_sync.specs.declared.answer.Synced.{Synced}
+use Rattle.round_line.specs.declared.round.Synced.{Synced}
 use Rattle.replica_sync.specs.Answers.{IsNamed}
 use Rattle.replica_sync.specs.LiveSide.{Syncs}
 use Rattle.replica_sync.specs.Newest.{next_moment}
 use Rattle.replica_sync.specs.StoreSide.{Stores}
 use Rattle.replica_sync.proofs.ReadingLemmas.{live_now}
-use Rattle.replica_sync.proofs.SyncLemmas.{follow_causes, later_recast, all_well, named_follow, named_refused, named_stored, syncs_err, syncs_refused, syncs_stored, syncs_same}
-use Rattle.replica_sync.proofs.SyncStoreLemmas.{store_unchanged, store_refused, store_stored, found_target, none_is_same}
+use Rattle.replica_sync.proofs.SyncLemmas.{follow_causes, later_recast, all_well, named_follow, named_refused}
+use Rattle.replica_sync.proofs.SyncLemmas.{named_stored, syncs_err, syncs_refused, syncs_stored, syncs_same}
+use Rattle.replica_sync.proofs.SyncStoreLemmas.{store_unchanged, store_refused, store_stored, found_target}
+use Rattle.replica_sync.proofs.SyncStoreLemmas.{none_is_same}
 use Rattle.replica_sync.specs.Faith.{IfBothTell, SyncKeepsFaith}
 use Rattle.replica_sync.proofs.Theorems.{faith_unchanged, faith_same, faith_refused, faith_stored}
 use Rattle.replica_sync.proofs.syncing.sync.Goals as goal
@@ -24,7 +26,8 @@ store_next-requires g c =
     record {
       found = ok.learns.found ∙ found_target c.in_ok-next.next c.in-Some.found (sym c.found_of.ensures ∙ c.in-Some.is);
       fits = live_now (g.L.Live.told c.args.live.now) (g.L.Live.told c.next.new.live) _ (λ r. IsLegal r.database)
-          (λ r. Fits c.next.new.self r.database) ok.told c.requires.legal (λ x y legal follows. follows.fits legal (follows.awake refl));
+          (λ r. Fits c.next.new.self r.database) ok.told c.requires.legal
+          (λ x y legal follows. follows.fits legal (follows.awake refl));
       awake = live_now (g.L.Live.told c.args.live.now) (g.L.Live.told c.next.new.live) _ (λ r. IsLegal r.database)
           (λ r. r.database.stopped ≡ false) ok.told c.requires.legal (λ x y legal follows. follows.awake refl);
     }
@@ -37,7 +40,8 @@ returns-in_err-next-clause-named g c =
 pub returns-in_err-next-clause-live : goal.returns-in_err-next-clause-live
 returns-in_err-next-clause-live g c =
     goes_from _ _ _ _ c.in_err-next.ensures.told (λ r after told follows.
-    subst (λ result. Syncs c.args.follower.now c.next.new.self result r after) (sym (err_of _ _ c.from_residual.ensures.1))
+    subst (λ result. Syncs c.args.follower.now c.next.new.self result r after)
+    (sym (err_of _ _ c.from_residual.ensures.1))
     (syncs_err c.args.follower.now c.next.new.self c.in_err-next.field-0.0 r after c.in_err-next.ensures.never follows))
 
 pub returns-in_err-next-clause-store : goal.returns-in_err-next-clause-store
@@ -48,7 +52,8 @@ returns-in_err-next-clause-store g c =
 pub returns-in_err-next-clause-causes : goal.returns-in_err-next-clause-causes
 returns-in_err-next-clause-causes g c =
     follow_causes c.from_residual.result c.next.result c.in_err-next.field-0.0 (g.L.Live.fault_count c.args.live.now)
-    (g.L.Live.fault_count c.next.new.live) (g.S.Disk.fault_count c.args.store.now) (err_of _ _ c.from_residual.ensures.1)
+    (g.L.Live.fault_count c.next.new.live) (g.S.Disk.fault_count c.args.store.now)
+    (err_of _ _ c.from_residual.ensures.1)
     c.in_err-next.was c.next.ensures.cause
 
 pub returns-in-None-clause-live : goal.returns-in-None-clause-live
@@ -63,7 +68,8 @@ returns-in-None-clause-live g c =
 pub returns-in-None-clause-causes : goal.returns-in-None-clause-causes
 returns-in-None-clause-causes g c =
     all_well _ (g.L.Live.fault_count c.args.live.now) (g.L.Live.fault_count c.next.new.live)
-    (g.S.Disk.fault_count c.args.store.now) (g.S.Disk.fault_count c.args.store.now) c.next.ensures.cause.later (omega arith)
+    (g.S.Disk.fault_count c.args.store.now) (g.S.Disk.fault_count c.args.store.now) c.next.ensures.cause.later
+    (omega arith)
 
 pub returns-in_err-name-in-Some-clause-named : goal.returns-in_err-name-in-Some-clause-named
 returns-in_err-name-in-Some-clause-named g c =
@@ -75,7 +81,8 @@ returns-in_err-name-in-Some-clause-live g c =
     goes_join _ _ _ _ _ _ c.in_ok-next.ensures.told c.in_err-name-in-Some.ensures.live (λ r mid after first second.
     subst (λ result. Syncs c.args.follower.now c.store_next.new.follower result r after)
     (sym (err_of _ _ c.from_residual-in_err-name-in-Some.ensures.1))
-    (syncs_refused c.args.follower.now c.next.new.self c.store_next.new.follower c.in_ok-next.next c.in-Some.found r mid after
+    (syncs_refused c.args.follower.now c.next.new.self c.store_next.new.follower c.in_ok-next.next c.in-Some.found r
+    mid after
     first (sym c.found_of.ensures ∙ c.in-Some.is) c.args.dated.now c.in_err-name-in-Some.field-0.0
     c.in_err-name-in-Some.ensures.answer second))
 
@@ -99,13 +106,15 @@ returns-in_err-name-in-Some-clause-causes g c =
 pub returns-in_ok-name-in-Some-clause-named : goal.returns-in_ok-name-in-Some-clause-named
 returns-in_ok-name-in-Some-clause-named g c =
     subst (λ (s : Synced). IsNamed c.args.dated.now (Ok s)) (sym c.synced_of.ensures)
-    (named_stored c.args.dated.now c.in-Some.found.wanted c.in_ok-name-in-Some.name c.in_ok-name-in-Some.ensures.ok.is_next)
+    (named_stored c.args.dated.now c.in-Some.found.wanted c.in_ok-name-in-Some.name
+    c.in_ok-name-in-Some.ensures.ok.is_next)
 
 pub returns-in_ok-name-in-Some-clause-live : goal.returns-in_ok-name-in-Some-clause-live
 returns-in_ok-name-in-Some-clause-live g c =
     goes_join _ _ _ _ _ _ c.in_ok-next.ensures.told c.in_ok-name-in-Some.ensures.live (λ r mid after first second.
     subst (λ (s : Synced). Syncs c.args.follower.now c.store_next.new.follower (Ok s) r after) (sym c.synced_of.ensures)
-    (syncs_stored c.args.follower.now c.next.new.self c.store_next.new.follower c.in_ok-next.next c.in-Some.found r mid after
+    (syncs_stored c.args.follower.now c.next.new.self c.store_next.new.follower c.in_ok-next.next c.in-Some.found r
+    mid after
     first (sym c.found_of.ensures ∙ c.in-Some.is) c.in_ok-name-in-Some.name c.in_ok-name-in-Some.ensures.place second))
 
 pub returns-in_ok-name-in-Some-clause-store : goal.returns-in_ok-name-in-Some-clause-store
@@ -143,8 +152,10 @@ returns-in-None-clause-faith g c =
 
 pub returns-in_err-name-in-Some-clause-faith : goal.returns-in_err-name-in-Some-clause-faith
 returns-in_err-name-in-Some-clause-faith g c =
-    faith_refused c.args.follower.now c.next.new.self c.store_next.new.follower c.args.dated.now c.args.now c.in_ok-next.next
-    c.in-Some.found (g.L.Live.told c.args.live.now) (g.L.Live.told c.next.new.live) (g.L.Live.told c.store_next.new.live)
+    faith_refused c.args.follower.now c.next.new.self c.store_next.new.follower c.args.dated.now c.args.now
+    c.in_ok-next.next
+    c.in-Some.found (g.L.Live.told c.args.live.now) (g.L.Live.told c.next.new.live)
+    (g.L.Live.told c.store_next.new.live)
     (g.S.Disk.told c.args.store.now) (g.S.Disk.told c.store_next.new.store) _ c.requires.fits c.in_ok-next.ensures.told
     (sym c.found_of.ensures ∙ c.in-Some.is) c.in_err-name-in-Some.ensures.live (λ r s stores. stores.step)
     c.from_residual-in_err-name-in-Some.result _ (err_of _ _ c.from_residual-in_err-name-in-Some.ensures.1)
@@ -155,8 +166,10 @@ returns-in_ok-name-in-Some-clause-faith g c =
     subst (λ (s : Synced). IfBothTell (g.L.Live.told c.args.live.now) (g.L.Live.told c.store_next.new.live)
     (g.S.Disk.told c.args.store.now) (g.S.Disk.told c.store_next.new.store) (SyncKeepsFaith c.args.follower.now
     c.store_next.new.follower c.args.dated.now c.args.now (Ok s))) (sym c.synced_of.ensures)
-    (faith_stored c.args.follower.now c.next.new.self c.store_next.new.follower c.args.dated.now c.args.now c.in_ok-next.next
-    c.in-Some.found (g.L.Live.told c.args.live.now) (g.L.Live.told c.next.new.live) (g.L.Live.told c.store_next.new.live)
+    (faith_stored c.args.follower.now c.next.new.self c.store_next.new.follower c.args.dated.now c.args.now
+    c.in_ok-next.next
+    c.in-Some.found (g.L.Live.told c.args.live.now) (g.L.Live.told c.next.new.live)
+    (g.L.Live.told c.store_next.new.live)
     (g.S.Disk.told c.args.store.now) (g.S.Disk.told c.store_next.new.store) _ c.requires.fits c.in_ok-next.ensures.told
     (sym c.found_of.ensures ∙ c.in-Some.is) c.in_ok-name-in-Some.ensures.live (λ r s stores. stores.step)
     c.in_ok-name-in-Some.name c.in_ok-name-in-Some.ensures.place c.in_ok-name-in-Some.ensures.ok)

@@ -3,7 +3,8 @@ use Rattle.std.proofs.lemmas.List.{take-append-le, length-take}
 use Rattle.live_gate.specs.LiveCalls.{Reads}
 use Rattle.snapshot_read.proofs.TellLemmas.{goes_then, goes_weaker, goes_nowhere, keeps_then, err_of}
 use Rattle.wal_follow.specs.Gathering.{HasGathered}
-use Rattle.wal_follow.proofs.ReadLemmas.{IsReadOn, read_begins, read_goes_on, read_stops, read_all, read_on_failed, read_starved}
+use Rattle.wal_follow.proofs.ReadLemmas.{IsReadOn, read_begins, read_goes_on, read_stops, read_all, read_on_failed}
+use Rattle.wal_follow.proofs.ReadLemmas.{read_starved}
 use Rattle.wal_follow.proofs.reading.read_on.Goals as goal
 
 pub loop-left-init : goal.loop-left-init

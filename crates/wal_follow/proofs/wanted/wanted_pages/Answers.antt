@@ -10,7 +10,8 @@ loop-below-init c = (
       (min c.args.least c.args.commit) l)
       (sym (c.in_ok-list.ensures.value ∙ ap (written c.args.newer.now.offsets c.args.behind c.lock_page-lock.result)
       c.min.ensures))
-      (listed_begins c.args.newer.now.offsets c.args.behind c.args.size c.lock_page-lock.result c.args.least c.args.commit
+      (listed_begins c.args.newer.now.offsets c.args.behind c.args.size c.lock_page-lock.result c.args.least
+      c.args.commit
       c.lock_page-lock.ensures),
   c.lock_page-lock.ensures,
 )

@@ -13,7 +13,8 @@ put-requires-clause-gathering g c =
 pub returns-in_err-put-clause-err : goal.returns-in_err-put-clause-err
 returns-in_err-put-clause-err g c =
     err_leaves c.from_residual.result _
-    (keeps_all c.args.self.now (g.S.Disk.told c.args.store.now) (g.S.Disk.told c.put.new.store) c.in_err-put.ensures.err)
+    (keeps_all c.args.self.now (g.S.Disk.told c.args.store.now) (g.S.Disk.told c.put.new.store)
+    c.in_err-put.ensures.err)
 
 pub put-requires-2-clause-gathering : goal.put-requires-2-clause-gathering
 put-requires-2-clause-gathering g c =

@@ -3,7 +3,8 @@ use Rattle.live_gate.proofs.StepLemmas.{step_itself}
 use Rattle.snapshot_read.proofs.TellLemmas.{err_of}
 use Rattle.wal_follow.specs.Calls.{target_of, Confirms}
 use Rattle.wal_follow.proofs.GoesOnLemmas.{goes_from, goes_both}
-use Rattle.wal_follow.proofs.ConfirmLemmas.{confirms_fault, confirms_unread, confirms_rest, confirms_read, IsAnswerFor, salts_answered}
+use Rattle.wal_follow.proofs.ConfirmLemmas.{confirms_fault, confirms_unread, confirms_rest, confirms_read, IsAnswerFor}
+use Rattle.wal_follow.proofs.ConfirmLemmas.{salts_answered}
 use Rattle.wal_follow.proofs.follower.Follower.confirm.Goals as goal
 
 pub returns-in_err-aim-in-Wal-clause-told : goal.returns-in_err-aim-in-Wal-clause-told

@@ -1,4 +1,5 @@
-use Rattle.std.proofs.Common.{rules, ◌≡◌, ◌∙◌, ◌*◌, ◌≤◌, ℕ, Bool, true, false, Some, Ok, Err, Result, refl, sym, ap, subst}
+use Rattle.std.proofs.Common.{rules, ◌≡◌, ◌∙◌, ◌*◌, ◌≤◌, ℕ, Bool, true, false, Some, Ok, Err, Result, refl, sym, ap}
+use Rattle.std.proofs.Common.{subst}
 use Rattle.std.specs.Prelude.{◌≢◌}
 use Rattle.ls_base.specs.Limits.{database_limit}
 use Rattle.ls_base.specs.declared.place.Place.{Place}

@@ -10,7 +10,8 @@ use Rattle.wal_follow.specs.declared.following.Following.{Following}
 use Rattle.wal_follow.specs.declared.following.Target.{Target}
 use Rattle.wal_follow.specs.AtRest.{AnswersAtRest}
 use Rattle.wal_follow.specs.Following.{is_in_log}
-use Rattle.wal_follow.proofs.AtRestLemmas.{file_same, file_sized, rest_fault, rest_starved, rest_large, rest_same, rest_found, rest_stopped, rest_step, rest_asked, ready_found}
+use Rattle.wal_follow.proofs.AtRestLemmas.{file_same, file_sized, rest_fault, rest_starved, rest_large, rest_same}
+use Rattle.wal_follow.proofs.AtRestLemmas.{rest_found, rest_stopped, rest_step, rest_asked, ready_found}
 use Rattle.wal_follow.proofs.LogGatherLemmas.{IsKnown, known_itself}
 use Rattle.wal_follow.proofs.following.Following.at_rest.Goals as goal
 
