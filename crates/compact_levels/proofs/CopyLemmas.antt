@@ -1,5 +1,6 @@
 -- Files of a run are read while the merged file is put: what is told of them stays.
-use Rattle.std.proofs.Common.{◌≡◌, ◌≢◌, ℕ, ◌+◌, ◌<◌, List, [], ◌∷◌, ◌++◌, length, Option, Some, None, refl, sym, ap, subst, ◌∙◌, inl, inr, arith}
+use Rattle.std.proofs.Common.{◌≡◌, ◌≢◌, ℕ, ◌+◌, ◌<◌, List, [], ◌∷◌, ◌++◌, length, Option, Some, None, refl, sym, ap}
+use Rattle.std.proofs.Common.{subst, ◌∙◌, inl, inr, arith}
 use Rattle.std.specs.Prelude.{slice_get, unwrap_or, codes, IsSome}
 use Rattle.std.specs.FinMap.{get, insert, empty}
 use Rattle.std.proofs.lemmas.List.{length-append}
@@ -35,7 +36,8 @@ back a b same = record { each = λ name. sym (same.each name) }
 not_a_draft : (name : FileName) (path : List ℕ) → IsPathOf path → path_of name ≢ draft_path path
 not_a_draft name path named is =
     let own : length (path_of name) ≡ 43 = length-file_path name.level name.min name.max in
-    let other : length path ≡ 43 = ap length named.is ∙ length-file_path named.name.level named.name.min named.name.max in
+    let other : length path ≡ 43 = ap length named.is ∙ length-file_path named.name.level named.name.min
+    named.name.max in
     let longer = length-append path (codes ".tmp") in
     omega (arith, own, other, longer, ap length is)
 

@@ -1,5 +1,6 @@
 -- A merged file that is being written goes on by pieces.
-use Rattle.std.proofs.Common.{◌≡◌, ℕ, List, [], ◌∷◌, ◌++◌, Option, Some, None, refl, sym, ap, subst, ◌∙◌, inl, inr, append_assoc, arith}
+use Rattle.std.proofs.Common.{◌≡◌, ℕ, List, [], ◌∷◌, ◌++◌, Option, Some, None, refl, sym, ap, subst, ◌∙◌, inl, inr}
+use Rattle.std.proofs.Common.{append_assoc, arith}
 use Rattle.std.specs.Prelude.{map, ◌⊎◌, is_some, IsSome}
 use Rattle.std.specs.FinMap.{empty, insert}
 use Rattle.std.specs.List.{flat_map}
@@ -11,13 +12,16 @@ use Rattle.crash_disk.specs.Told.{Told, IfTold}
 use Rattle.crash_disk.proofs.GoesOnLemmas.{goes_on-weaker, told_now}
 use Rattle.ltx_format.specs.declared.header.LtxHeader.{LtxHeader}
 use Rattle.ltx_format.specs.LtxFormat.{header_bytes, page_block, page_blocks, IsLtxFile}
-use Rattle.ltx_format.specs.Writing.{PageMap, Indexed, HasIndexed, EndsFile, IsLastBlock, GainsPage, IsWhole, change_with}
+use Rattle.ltx_format.specs.Writing.{PageMap, Indexed, HasIndexed, EndsFile, IsLastBlock, GainsPage, IsWhole}
+use Rattle.ltx_format.specs.Writing.{change_with}
 use Rattle.ltx_format.proofs.BlockLoop.{entries-empty}
-use Rattle.replica_store.specs.Putting.{draft_path, IsPutting, KeepsOthers, Puts, HasPut, MayPut, AfterPutting, PutsMore, PutsNothing, StillKeepsOthers}
+use Rattle.replica_store.specs.Putting.{draft_path, IsPutting, KeepsOthers, Puts, HasPut, MayPut, AfterPutting}
+use Rattle.replica_store.specs.Putting.{PutsMore, PutsNothing, StillKeepsOthers}
 use Rattle.compact_levels.specs.declared.draft.Draft.{Draft}
 use Rattle.compact_levels.specs.declared.merge_fault.MergeFault.{MergeFault}
 use Rattle.compact_levels.specs.declared.merge_fault.MergeFault.TheVariants.{Damaged, PageMissing, Store, Memory}
-use Rattle.compact_levels.specs.Drafting.{header_of, IsBeingPut, IsDrafting, IsFileWith, HasPutDraft, MayHavePutDraft, LeavesDraft, IsOfDiskOrMemory}
+use Rattle.compact_levels.specs.Drafting.{header_of, IsBeingPut, IsDrafting, IsFileWith, HasPutDraft, MayHavePutDraft}
+use Rattle.compact_levels.specs.Drafting.{LeavesDraft, IsOfDiskOrMemory}
 
 -- ---- bytes
 
@@ -96,7 +100,8 @@ pub ends_draft : (path piece tail : List ℕ) (writer : Indexed) (old mid now : 
     → (bytes : List ℕ) × IsFileWith writer.written.header pages bytes × GoesOn begun now (IsPutting path bytes)
 ends_draft path piece tail writer old mid now ends first second begun pages written has put all = (
   (written ++ piece) ++ tail,
-  λ whole. subst (λ (bs : List ℕ). IsLtxFile (bs ++ tail) writer.written.header (change_with writer.written.header pages))
+  λ whole. subst (λ (bs : List ℕ). IsLtxFile (bs ++ tail) writer.written.header
+      (change_with writer.written.header pages))
       all (ends pages has whole),
   second begun (written ++ piece) (first begun written put),
 )

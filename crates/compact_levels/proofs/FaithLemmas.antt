@@ -1,5 +1,6 @@
 -- The merge of files that tell the truth does so too.
-use Rattle.std.proofs.Common.{◌≡◌, ◌≢◌, ℕ, ◌+◌, ◌-◌, ◌<◌, ◌≤◌, List, [], ◌∷◌, ◌++◌, length, replicate, Option, Some, None, refl, sym, ap, subst, ◌∙◌, inl, inr, arith}
+use Rattle.std.proofs.Common.{◌≡◌, ◌≢◌, ℕ, ◌+◌, ◌-◌, ◌<◌, ◌≤◌, List, [], ◌∷◌, ◌++◌, length, replicate, Option, Some}
+use Rattle.std.proofs.Common.{None, refl, sym, ap, subst, ◌∙◌, inl, inr, arith}
 use Rattle.std.specs.Prelude.{map, IsSome, is_some, ◌⊎◌}
 use Rattle.std.specs.Option.{option_or}
 use Rattle.std.specs.FinMap.{get}
@@ -14,7 +15,8 @@ use Rattle.compact_levels.specs.Merged.{IsMerged}
 
 -- ---- what changes of one page size lay over a state
 
--- The changes lead from a state to another: that has as many pages as the last of them leaves, its lock page is zeros, and
+-- The changes lead from a state to another: that has as many pages as the last of them leaves, its lock page is
+-- zeros, and
 -- each other page is the last one of the changes, else the state's.
 pub record LieOver (size : ℕ) (before : State) (changes : List Change) (after : State) : Type 0 where
   pub fits : (n : ℕ) → before.page_size ≡ Some n → n ≡ size
@@ -33,7 +35,8 @@ lies_over s c fits =
       sized = refl;
       count = count;
       lock = λ p some low is. page_of-apply s c p fits some (omega (arith, low, count)) ∙ page_after-lock s c p is;
-      each = λ p some low other. page_of-apply s c p fits some (omega (arith, low, count)) ∙ page_after-other s c p other;
+      each = λ p some low other. page_of-apply s c p fits some (omega (arith, low, count))
+          ∙ page_after-other s c p other;
     }
 
 -- a page that is in a state
@@ -44,8 +47,10 @@ within_state s p page is = elim (cases_lt (length s.pages) p) [
 ]
 
 -- where the rest of the changes has no page, it is that of the state before them
-through : (size p : ℕ) (before mid after : State) (c : Change) (rest : List Change) (last : Option (List ℕ)) → last ≡ last_page rest p
-    → LieOver size before (c ∷ []) mid → LieOver size mid rest after → 1 ≤ p → p ≤ length after.pages → p ≢ lock_page size
+through : (size p : ℕ) (before mid after : State) (c : Change) (rest : List Change) (last : Option (List ℕ))
+    → last ≡ last_page rest p
+    → LieOver size before (c ∷ []) mid → LieOver size mid rest after → 1 ≤ p → p ≤ length after.pages
+    → p ≢ lock_page size
     → option_or last (page_of mid p) ≡ option_or (option_or last (get c.pages p)) (page_of before p)
 through size p before mid after c rest (Some page) is first over some low other = refl
 through size p before mid after c rest None is first over some low other =
@@ -56,7 +61,8 @@ through size p before mid after c rest None is first over some low other =
 
 -- the rest of the changes behind the first, which leads to a state between
 pub lie_over_then : (size : ℕ) (before mid after : State) (c d : Change) (changes : List Change)
-    → LieOver size before (c ∷ []) mid → LieOver size mid (d ∷ changes) after → LieOver size before (c ∷ d ∷ changes) after
+    → LieOver size before (c ∷ []) mid → LieOver size mid (d ∷ changes) after
+    → LieOver size before (c ∷ d ∷ changes) after
 lie_over_then size before mid after c d changes first rest = record {
   fits = first.fits;
   sized = rest.sized;
@@ -66,17 +72,20 @@ lie_over_then size before mid after c d changes first rest = record {
       ∙ through size p before mid after c (d ∷ changes) (last_page (d ∷ changes) p) refl first rest some low other;
 }
 
--- where the rest of the changes has no page, it is the first change's, which leads to the state before them from elsewhere
+-- where the rest of the changes has no page, it is the first change's, which leads to the state before them from
+-- elsewhere
 beside : (size p : ℕ) (before other mid after : State) (c : Change) (rest : List Change) (own last : Option (List ℕ))
     → own ≡ get c.pages p → last ≡ last_page rest p
-    → LieOver size other (c ∷ []) mid → LieOver size mid rest after → 1 ≤ p → p ≤ length after.pages → p ≢ lock_page size
+    → LieOver size other (c ∷ []) mid → LieOver size mid rest after → 1 ≤ p → p ≤ length after.pages
+    → p ≢ lock_page size
     → page_of after p ≡ option_or last (page_of before p)
     → page_of after p ≡ option_or (option_or last own) (page_of before p)
 beside size p before other mid after c rest own (Some page) is none first over some low unlocked found = found
 beside size p before other mid after c rest None None is none first over some low unlocked found = found
 beside size p before other mid after c rest (Some page) None is none first over some low unlocked found =
     let there = page_of-there after p some low in
-    let from_mid = over.each p some low unlocked ∙ ap (λ (o : Option (List ℕ)). option_or o (page_of mid p)) (sym none) in
+    let from_mid = over.each p some low unlocked ∙ ap (λ (o : Option (List ℕ)). option_or o (page_of mid p))
+    (sym none) in
     let own : page_of mid p ≡ Some there.0 = sym from_mid ∙ there.1 in
     from_mid ∙ first.each p some (within_state mid p there.0 own) unlocked
     ∙ ap (λ (o : Option (List ℕ)). option_or o (page_of other p)) (sym is)
@@ -96,7 +105,8 @@ lie_over_beside size before other mid after c d changes first rest over = record
 
 -- ---- the merge applied
 
-module _ (size : ℕ) (before after : State) (changes : List Change) (c : Change) (over : LieOver size before changes after)
+module _ (size : ℕ) (before after : State) (changes : List Change) (c : Change)
+    (over : LieOver size before changes after)
     (merged : IsMerged c changes) (same : c.page_size ≡ size) where
   merged_after : (p : ℕ) → 1 ≤ p → p ≤ c.commit → page_after before c p ≡ page_of after p
   merged_after p some low =
@@ -119,7 +129,8 @@ module _ (size : ℕ) (before after : State) (changes : List Change) (c : Change
 
   pub merge_makes : after ≡ apply before c
   merge_makes =
-      let count : length after.pages ≡ length (apply before c).pages = over.count ∙ sym merged.commit ∙ sym (length-apply before c) in
+      let count : length after.pages ≡ length (apply before c).pages = over.count ∙ sym merged.commit
+      ∙ sym (length-apply before c) in
       same_states after (apply before c) (over.sized ∙ ap (λ (n : ℕ). Some n) (sym same)) count
       (λ p some low. sym (page_of-apply before c p merge_fits some (omega (arith, low, count, length-apply before c))
       ∙ merged_after p some (omega (arith, low, count, length-apply before c))))

@@ -1,5 +1,6 @@
 -- The files of a run lead from one recorded state to another.
-use Rattle.std.proofs.Common.{◌≡◌, ℕ, suc, ◌+◌, ◌-◌, ◌<◌, ◌≤◌, List, [], ◌∷◌, ◌++◌, length, Option, Some, None, refl, sym, ap, subst, ◌∙◌, inl, inr, arith}
+use Rattle.std.proofs.Common.{◌≡◌, ℕ, suc, ◌+◌, ◌-◌, ◌<◌, ◌≤◌, List, [], ◌∷◌, ◌++◌, length, Option, Some, None, refl}
+use Rattle.std.proofs.Common.{sym, ap, subst, ◌∙◌, inl, inr, arith}
 use Rattle.std.specs.Prelude.{map, unwrap_or, IsSome, ◌⊎◌}
 use Rattle.std.specs.List.{AllByRecursion, Contains}
 use Rattle.std.specs.FinMap.{get}
@@ -59,7 +60,8 @@ module _ (files : Files) (history : History) (log : SyncLog) (faithful : IsFaith
     pub reached : recorded_state history log to ≡ Some after
     pub over : LieOver size before changes after
 
-  pub one_leads : (name : FileName) (file : LtxFile) (size s : ℕ) → IsIn files name → IsFileUnder files name file → file.header.size ≡ size
+  pub one_leads : (name : FileName) (file : LtxFile) (size s : ℕ) → IsIn files name → IsFileUnder files name file
+      → file.header.size ≡ size
       → MayFollow name.min name.max s → Leads size s name.max (change_of file ∷ [])
   one_leads name file size s there is sized follows =
       let true = is_true name file there is in
@@ -71,7 +73,8 @@ module _ (files : Files) (history : History) (log : SyncLog) (faithful : IsFaith
         recorded = turns.recorded;
         after = apply turns.before c;
         reached = turns.after ∙ ap (λ (d : Change). Some (apply turns.before d)) true.change;
-        over = subst (λ (n : ℕ). LieOver n turns.before (c ∷ []) (apply turns.before c)) sized (lies_over turns.before c fits);
+        over = subst (λ (n : ℕ). LieOver n turns.before (c ∷ []) (apply turns.before c)) sized
+            (lies_over turns.before c fits);
       }
 
   -- one behind the other
@@ -106,16 +109,20 @@ module _ (files : Files) (history : History) (log : SyncLog) (faithful : IsFaith
 
   -- ---- a gapless run
 
-  pub gapless_leads : (level size to : ℕ) (first : FileName) (rest : List FileName) (file : LtxFile) (read : List LtxFile)
-      → AreIn files (first ∷ rest) → IsGapless level first.max rest to → AreFilesUnder files (first ∷ rest) (file ∷ read)
-      → HavePageSize size (file ∷ read) → (s : ℕ) → MayFollow first.min to s → Leads size s to (map change_of (file ∷ read))
+  pub gapless_leads : (level size to : ℕ) (first : FileName) (rest : List FileName) (file : LtxFile)
+      (read : List LtxFile)
+      → AreIn files (first ∷ rest) → IsGapless level first.max rest to
+      → AreFilesUnder files (first ∷ rest) (file ∷ read)
+      → HavePageSize size (file ∷ read) → (s : ℕ) → MayFollow first.min to s
+      → Leads size s to (map change_of (file ∷ read))
   gapless_leads level size to first [] file [] there gapless (here, are) (own, sized) s follows =
       subst (λ (n : ℕ). Leads size s n (change_of file ∷ [])) gapless
       (one_leads first file size s (there first (0, omega arith, refl)) here own
       (subst (λ (n : ℕ). MayFollow first.min n s) (sym gapless) follows))
   gapless_leads level size to first [] file (other ∷ read) there gapless (here, are) sized s follows = absurd are
   gapless_leads level size to first (next ∷ rest) file [] there gapless (here, are) sized s follows = absurd are
-  gapless_leads level size to first (next ∷ rest) file (other ∷ read) there (goes, gapless) (here, are) (own, sized) s follows =
+  gapless_leads level size to first (next ∷ rest) file (other ∷ read) there (goes, gapless) (here, are) (own, sized) s
+      follows =
       let in_first = there first (0, omega arith, refl) in
       let later : AreIn files (next ∷ rest) = λ name has. there name (suc has.0, omega (arith, has.1), has.2) in
       let up = gapless_up level next.max rest to gapless in
@@ -141,16 +148,19 @@ module _ (files : Files) (history : History) (log : SyncLog) (faithful : IsFaith
 
   -- ---- a chain
 
-  pub chain_leads : (names : List FileName) (size to from : ℕ) (first : FileName) (rest : List FileName) (file : LtxFile)
+  pub chain_leads : (names : List FileName) (size to from : ℕ) (first : FileName) (rest : List FileName)
+      (file : LtxFile)
       (read : List LtxFile) → AreIn files (first ∷ rest) → LeadsTo names from (first ∷ rest) to
       → AllByRecursion (λ name. 1 < name.min) rest → AreFilesUnder files (first ∷ rest) (file ∷ read)
-      → HavePageSize size (file ∷ read) → MayFollow first.min first.max from → Leads size from to (map change_of (file ∷ read))
+      → HavePageSize size (file ∷ read) → MayFollow first.min first.max from
+      → Leads size from to (map change_of (file ∷ read))
   chain_leads names size to from first [] file [] there (has, next, leads) later (here, are) (own, sized) follows =
       subst (λ (n : ℕ). Leads size from n (change_of file ∷ [])) leads
       (one_leads first file size from (there first (0, omega arith, refl)) here own follows)
   chain_leads names size to from first [] file (other ∷ read) there leads later (here, are) sized follows = absurd are
   chain_leads names size to from first (second ∷ rest) file [] there leads later (here, are) sized follows = absurd are
-  chain_leads names size to from first (second ∷ rest) file (other ∷ read) there (has, next, leads) (late, later) (here, are)
+  chain_leads names size to from first (second ∷ rest) file (other ∷ read) there (has, next, leads) (late, later)
+      (here, are)
       (own, sized) follows =
       let begins = leads.1.begins in
       let on = leads.1.goes_on in

@@ -1,5 +1,6 @@
 -- No file of a run that tells the truth is damaged, and no page is missing in it.
-use Rattle.std.proofs.Common.{◌≡◌, ℕ, zero, suc, ◌+◌, ◌-◌, ◌<◌, ◌≤◌, List, [], ◌∷◌, ◌++◌, Option, Some, None, refl, sym, ap, subst, ◌∙◌, inl, inr, arith}
+use Rattle.std.proofs.Common.{◌≡◌, ℕ, zero, suc, ◌+◌, ◌-◌, ◌<◌, ◌≤◌, List, [], ◌∷◌, ◌++◌, Option, Some, None, refl, sym}
+use Rattle.std.proofs.Common.{ap, subst, ◌∙◌, inl, inr, arith}
 use Rattle.std.specs.Prelude.{map, ◌⊎◌, IsSome}
 use Rattle.std.specs.List.{AllByRecursion, Contains}
 use Rattle.crash_disk.specs.Files.{Files}
@@ -39,7 +40,8 @@ FollowFrom from (name ∷ plan) = MayFollow name.min name.max from × FollowFrom
 
 -- ---- the files of a run do
 
-gapless_follow : (files : Files) (level end to : ℕ) (rest : List FileName) → AreIn files rest → 1 ≤ end → IsGapless level end rest to
+gapless_follow : (files : Files) (level end to : ℕ) (rest : List FileName) → AreIn files rest → 1 ≤ end
+    → IsGapless level end rest to
     → FollowFrom end rest
 gapless_follow files level end to [] there some gapless = tt
 gapless_follow files level end to (name ∷ rest) there some (goes, gapless) =
@@ -64,7 +66,8 @@ first_follows zero max some order = absurd (omega (arith, some))
 first_follows (suc zero) max some order = inl (refl, refl)
 first_follows (suc (suc n)) max some order = inr (omega arith, omega arith, omega (arith, order))
 
-run_follows : (files : Files) (names : List FileName) (run : Run) (first : FileName) (rest : List FileName) → AreIn files names
+run_follows : (files : Files) (names : List FileName) (run : Run) (first : FileName) (rest : List FileName)
+    → AreIn files names
     → IsRunOf names run first rest → FollowFrom (first.min - 1) (first ∷ rest)
 run_follows files names run first rest all is =
     let there = run_in files names run first rest all is in
@@ -105,7 +108,8 @@ module _ (files : Files) (history : History) (log : SyncLog) (faithful : IsFaith
       let own = faithful.each name bytes there.valid (there_bytes _ there.there) in (
         file_made own.header own.change,
         record {
-          file = subst (IsLtxFile bytes own.header) (same_change bytes own.header own.change own.file.file) own.file.file;
+          file = subst (IsLtxFile bytes own.header) (same_change bytes own.header own.change own.file.file)
+              own.file.file;
           from_min = own.file.from_min;
           to_max = own.file.to_max;
         },
@@ -116,14 +120,16 @@ module _ (files : Files) (history : History) (log : SyncLog) (faithful : IsFaith
     fits : IsApplicable before (change_of file)
     after : recorded_state history log name.max ≡ Some (apply before (change_of file))
 
-  applied : (name : FileName) (file : LtxFile) (from : ℕ) (before : State) → IsIn files name → IsFileUnder files name file
+  applied : (name : FileName) (file : LtxFile) (from : ℕ) (before : State) → IsIn files name
+      → IsFileUnder files name file
       → MayFollow name.min name.max from → recorded_state history log from ≡ Some before → Applied name file before
   applied name file from before there is follows recorded =
       let true = is_true files history log faithful name file there is in
       let turns = true.own.leads from follows in
       let state = same_state turns.before before (sym turns.recorded ∙ recorded) in
       record {
-        fits = subst (IsApplicable before) true.change (subst (λ (s : State). IsApplicable s true.own.change) state turns.fits);
+        fits = subst (IsApplicable before) true.change
+            (subst (λ (s : State). IsApplicable s true.own.change) state turns.fits);
         after = turns.after ∙ ap (λ (s : State). Some (apply s true.own.change)) state
             ∙ ap (λ (c : Change). Some (apply before c)) true.change;
       }
@@ -151,10 +157,12 @@ module _ (files : Files) (history : History) (log : SyncLog) (faithful : IsFaith
       let one = applied name found.0 from before here found.1 own recorded in
       let same = one.fits.same_size size is in
       let rest = sized_behind plan name.max size (apply before (change_of found.0))
-      (λ n has. there n (suc has.0, omega (arith, has.1), has.2)) follows one.after (ap (λ (n : ℕ). Some n) (sym same)) in
+      (λ n has. there n (suc has.0, omega (arith, has.1), has.2)) follows one.after
+      (ap (λ (n : ℕ). Some n) (sym same)) in
       record { read = found.0 ∷ rest.read; are = (found.1, rest.are); sized = (sym same, rest.sized) }
 
-  sized_run : (first : FileName) (rest : List FileName) → AreIn files (first ∷ rest) → FollowFrom (first.min - 1) (first ∷ rest)
+  sized_run : (first : FileName) (rest : List FileName) → AreIn files (first ∷ rest)
+      → FollowFrom (first.min - 1) (first ∷ rest)
       → (size : ℕ) × Sized (first ∷ rest) size
   sized_run first rest there (own, follows) =
       let here = there first (0, omega arith, refl) in
@@ -176,29 +184,35 @@ module _ (files : Files) (history : History) (log : SyncLog) (faithful : IsFaith
   file_amid [] after name size [] are sized = absurd are
   file_amid [] after name size (file ∷ read) are sized = (file, are.0, sized.0)
   file_amid (first ∷ before) after name size [] are sized = absurd are
-  file_amid (first ∷ before) after name size (file ∷ read) are sized = file_amid before after name size read are.1 sized.1
+  file_amid (first ∷ before) after name size (file ∷ read) are sized = file_amid before after name size read are.1
+      sized.1
 
-  one_size : (name : FileName) (rest other : List FileName) (a b : ℕ) (x y : List LtxFile) → AreFilesUnder files (name ∷ rest) x
+  one_size : (name : FileName) (rest other : List FileName) (a b : ℕ) (x y : List LtxFile)
+      → AreFilesUnder files (name ∷ rest) x
       → AreFilesUnder files (name ∷ other) y → HavePageSize a x → HavePageSize b y → a ≡ b
   one_size name rest other a b [] y arex arey ofa ofb = absurd arex
   one_size name rest other a b (f ∷ x) [] arex arey ofa ofb = absurd arey
   one_size name rest other a b (f ∷ x) (k ∷ y) arex arey ofa ofb =
-      let same = same_value (bytes_under files (path_of name)) f.header k.header (change_of f) (change_of k) arex.0.file arey.0.file in
+      let same = same_value (bytes_under files (path_of name)) f.header k.header (change_of f) (change_of k)
+      arex.0.file arey.0.file in
       sym ofa.0 ∙ ap (λ (h : LtxHeader). h.size) same.0 ∙ ofb.0
 
   not_damaged : (name : FileName) (file : LtxFile) (size : ℕ) (damage : Damage) → IsFileUnder files name file
-      → (damage ≡ SizeDiffers → file.header.size ≡ size) → IsDamage (bytes_under files (path_of name)) name size damage → ⊥
+      → (damage ≡ SizeDiffers → file.header.size ≡ size) → IsDamage (bytes_under files (path_of name)) name size
+      damage → ⊥
   not_damaged name file size (File fault) is sized damaged =
       let none = no_fault (bytes_under files (path_of name)) file.header (change_of file) is.file in absurd cc
   not_damaged name file size NameDiffers is sized damaged =
-      let same = (same_value (bytes_under files (path_of name)) damaged.header file.header damaged.change (change_of file) damaged.file
+      let same = (same_value (bytes_under files (path_of name)) damaged.header file.header damaged.change
+      (change_of file) damaged.file
       is.file).0 in
       elim damaged.differs [
         | inl min ↦ absurd (min (ap (λ (h : LtxHeader). h.min) same ∙ is.from_min))
         | inr max ↦ absurd (max (ap (λ (h : LtxHeader). h.max) same ∙ is.to_max))
       ]
   not_damaged name file size SizeDiffers is sized damaged =
-      let same = (same_value (bytes_under files (path_of name)) damaged.header file.header damaged.change (change_of file)
+      let same = (same_value (bytes_under files (path_of name)) damaged.header file.header damaged.change
+      (change_of file)
       damaged.file.file is.file).0 in
       damaged.differs (ap (λ (h : LtxHeader). h.size) same ∙ sized refl)
 
@@ -216,13 +230,16 @@ module _ (files : Files) (history : History) (log : SyncLog) (faithful : IsFaith
       let are = subst (λ (ns : List FileName). AreFilesUnder files ns all.1.read) is.split all.1.are in
       let found = file_amid is.before is.after name all.0 all.1.read are all.1.sized in
       not_damaged name found.0 is.size damage found.1
-      (λ differs. found.2 ∙ size_known is.before is.after name all.0 is.size all.1.read is.read are all.1.sized is.are is.one_size
+      (λ differs. found.2 ∙ size_known is.before is.after name all.0 is.size all.1.read is.read are all.1.sized is.are
+      is.one_size
       (λ none. is.first none differs)) is.damaged
 
   -- ---- no page is missing
 
-  fits_behind : (before after : List FileName) (name : FileName) (from : ℕ) (s state : State) (read : List LtxFile) (file : LtxFile)
-      → AreIn files (before ++ name ∷ after) → FollowFrom from (before ++ name ∷ after) → recorded_state history log from ≡ Some s
+  fits_behind : (before after : List FileName) (name : FileName) (from : ℕ) (s state : State) (read : List LtxFile)
+      (file : LtxFile)
+      → AreIn files (before ++ name ∷ after) → FollowFrom from (before ++ name ∷ after)
+      → recorded_state history log from ≡ Some s
       → AreFilesUnder files before read → AppliesTo s (map change_of read) state → IsFileUnder files name file
       → IsApplicable state (change_of file)
   fits_behind [] after name from s state [] file there follows recorded are applies is =

@@ -1,5 +1,6 @@
 -- The merge of files is put, or nothing but a temporary file has changed.
-use Rattle.std.proofs.Common.{◌≡◌, ℕ, zero, suc, ◌+◌, ◌<◌, ◌≤◌, List, [], ◌∷◌, ◌++◌, length, Option, Some, None, refl, sym, ap, subst, ◌∙◌, inl, inr, arith}
+use Rattle.std.proofs.Common.{◌≡◌, ℕ, zero, suc, ◌+◌, ◌<◌, ◌≤◌, List, [], ◌∷◌, ◌++◌, length, Option, Some, None, refl}
+use Rattle.std.proofs.Common.{sym, ap, subst, ◌∙◌, inl, inr, arith}
 use Rattle.std.specs.Prelude.{◌⊎◌, map, slice_get, Result, Ok, Err, IfErr}
 use Rattle.std.specs.FinMap.{empty, get, get-empty}
 use Rattle.std.specs.Ordering.{nat_cmp}
@@ -34,10 +35,14 @@ use Rattle.replica_store.proofs.ImageLemmas.{others_start}
 use Rattle.compact_levels.specs.declared.draft.Draft.{Draft}
 use Rattle.compact_levels.specs.declared.merge_fault.MergeFault.{MergeFault}
 use Rattle.compact_levels.specs.declared.merge_fault.MergeFault.TheVariants.{Damaged, PageMissing, Store, Memory}
-use Rattle.compact_levels.specs.Drafting.{header_of, AreCopied, BeginsCopying, HaveCopied, HasCopied, HasPutDraft, IsBeingPut, IsDrafting, IsFileWith, IsOfDiskOrMemory, LeavesDraft, MayHavePutDraft, StopsCopying}
-use Rattle.compact_levels.specs.Merged.{HasMergedPlan, IsMergeOf, IsMergeOfPlan, LeavesPlan, MayHaveMergedPlan, MergesHeader, Spans}
+use Rattle.compact_levels.specs.Drafting.{header_of, AreCopied, BeginsCopying, HaveCopied, HasCopied, HasPutDraft}
+use Rattle.compact_levels.specs.Drafting.{IsBeingPut, IsDrafting, IsFileWith, IsOfDiskOrMemory, LeavesDraft}
+use Rattle.compact_levels.specs.Drafting.{MayHavePutDraft, StopsCopying}
+use Rattle.compact_levels.specs.Merged.{HasMergedPlan, IsMergeOf, IsMergeOfPlan, LeavesPlan, MayHaveMergedPlan}
+use Rattle.compact_levels.specs.Merged.{MergesHeader, Spans}
 use Rattle.compact_levels.specs.MergeCause.{fault_of}
-use Rattle.compact_levels.proofs.MergeLemmas.{HasFirst, HasLast, first_file, last_file, last_same, names_end, commit_at_end, is_merged, is_whole}
+use Rattle.compact_levels.proofs.MergeLemmas.{HasFirst, HasLast, first_file, last_file, last_same, names_end}
+use Rattle.compact_levels.proofs.MergeLemmas.{commit_at_end, is_merged, is_whole}
 
 -- ---- before the first page
 
@@ -55,7 +60,8 @@ begins_copying begun mid now cursors draft name same given drafting named = reco
   copied = none_copied (header_of draft);
 }
 
-pub being_put : (begun now : Told) (draft : Draft) (pages : PageMap) → IsDrafting begun now draft pages → IsBeingPut draft.put now
+pub being_put : (begun now : Told) (draft : Draft) (pages : PageMap) → IsDrafting begun now draft pages
+    → IsBeingPut draft.put now
 being_put begun now draft pages is = record { begun = begun; written = is.written; put = is.put }
 
 -- ---- the last file's header
@@ -69,7 +75,8 @@ length_end [] last = refl
 length_end (x ∷ before) last = let rest = length_end before last in omega (arith, rest)
 
 -- the reader of a cursor that has given nothing tells the header of its file
-header_told : (files : Files) (cursors : Cursors) (given : Blocks) (before : List Cursor) (last : Cursor) → HaveGiven files cursors given
+header_told : (files : Files) (cursors : Cursors) (given : Blocks) (before : List Cursor) (last : Cursor)
+    → HaveGiven files cursors given
     → cursors.cursors.items ≡ before ++ last ∷ [] → HasHeader (bytes_of files last.name) last.reader.header
 header_told files cursors given before last has ends =
     let at : slice_get cursors.cursors.items (length before) ≡ Some last =
@@ -81,8 +88,10 @@ header_told files cursors given before last has ends =
 
 -- ---- the merge
 
-module _ (files : Files) (plan : List FileName) (name : FileName) (cursors : Cursors) (h : LtxHeader) (given : Blocks) (pages : PageMap)
-    (size : ℕ) (bytes : List ℕ) (begun : HaveGiven files cursors []) (same_plan : plan_of cursors ≡ plan) (merges : MergesHeader cursors name h)
+module _ (files : Files) (plan : List FileName) (name : FileName) (cursors : Cursors) (h : LtxHeader) (given : Blocks)
+    (pages : PageMap)
+    (size : ℕ) (bytes : List ℕ) (begun : HaveGiven files cursors []) (same_plan : plan_of cursors ≡ plan)
+    (merges : MergesHeader cursors name h)
     (spans : Spans plan name.min name.max) (sized : h.size ≡ size) (all : HaveCopied name.min files plan size given)
     (copied : AreCopied h given pages) (file : IsFileWith h pages bytes) where
   end : HasLast files spans.last all.read
@@ -103,7 +112,8 @@ module _ (files : Files) (plan : List FileName) (name : FileName) (cursors : Cur
 
   commit_is : h.commit ≡ last_commit 0 (map change_of all.read)
   commit_is = ap (λ (k : LtxHeader). k.commit) merges.is ∙ ap (λ (k : LtxHeader). k.commit) same_last
-      ∙ sym (commit_at_end 0 end.before end.last) ∙ ap (λ (fs : List LtxFile). last_commit 0 (map change_of fs)) (sym end.ends)
+      ∙ sym (commit_at_end 0 end.before end.last) ∙ ap (λ (fs : List LtxFile). last_commit 0 (map change_of fs))
+      (sym end.ends)
 
   begin : HasFirst files spans.first all.read
   begin = first_file files spans.first spans.rest all.read
@@ -141,15 +151,19 @@ module _ (files : Files) (plan : List FileName) (name : FileName) (cursors : Cur
 
 -- ---- what the call did
 
-module _ (begun copied_at now : Told) (plan : List FileName) (name : FileName) (cursors : Cursors) (h : LtxHeader) (draft : Draft)
+module _ (begun copied_at now : Told) (plan : List FileName) (name : FileName) (cursors : Cursors) (h : LtxHeader)
+    (draft : Draft)
     (given : IfTold begun (λ events. HaveGiven (files_after events) cursors [])) (same_plan : plan_of cursors ≡ plan)
     (merges : MergesHeader cursors name h) (spans : Spans plan name.min name.max) (sized : h.size ≡ cursors.size)
     (same : header_of draft ≡ h) (copied : HasCopied begun copied_at name.min plan cursors.size draft) where
-  merged_by : (events : List Event) → begun ≡ Some events → (bytes : List ℕ) → IsFileWith (header_of draft) copied.pages bytes
+  merged_by : (events : List Event) → begun ≡ Some events → (bytes : List ℕ)
+      → IsFileWith (header_of draft) copied.pages bytes
       → IsMergeOfPlan (files_after events) plan bytes
   merged_by events told bytes file =
-      merges_plan (files_after events) plan name cursors h copied.given copied.pages cursors.size bytes (given events told) same_plan merges
-      spans sized (copied.read events told) (subst (λ (k : LtxHeader). AreCopied k copied.given copied.pages) same copied.copied)
+      merges_plan (files_after events) plan name cursors h copied.given copied.pages cursors.size bytes
+      (given events told) same_plan merges
+      spans sized (copied.read events told)
+      (subst (λ (k : LtxHeader). AreCopied k copied.given copied.pages) same copied.copied)
       (subst (λ (k : LtxHeader). IsFileWith k copied.pages bytes) same file)
 
   pub has_merged : (path : List ℕ) → GoesOn begun now (HasPutDraft path (header_of draft) copied.pages)
@@ -176,11 +190,14 @@ module _ (begun copied_at now : Told) (plan : List FileName) (name : FileName) (
   })
 
   pub not_finished : (path : List ℕ) (fault : MergeFault)
-      → GoesOn begun now (LeavesDraft path (header_of draft) copied.pages fault) → GoesOn begun now (LeavesPlan name.min plan path fault)
+      → GoesOn begun now (LeavesDraft path (header_of draft) copied.pages fault)
+      → GoesOn begun now (LeavesPlan name.min plan path fault)
   not_finished path (Damaged name damage) put =
-      goes_on-weaker begun now (LeavesDraft path (header_of draft) copied.pages (Damaged name damage)) _ put (λ x y never. absurd never)
+      goes_on-weaker begun now (LeavesDraft path (header_of draft) copied.pages (Damaged name damage)) _ put
+      (λ x y never. absurd never)
   not_finished path (PageMissing name number) put =
-      goes_on-weaker begun now (LeavesDraft path (header_of draft) copied.pages (PageMissing name number)) _ put (λ x y never. absurd never)
+      goes_on-weaker begun now (LeavesDraft path (header_of draft) copied.pages (PageMissing name number)) _ put
+      (λ x y never. absurd never)
   not_finished path (Store fault) put = record {
     told = λ events told.
         let all = put.told events told in (all.0, all.1, may_have_merged path events all.0 told all.2, all.3);
@@ -190,9 +207,11 @@ module _ (begun copied_at now : Told) (plan : List FileName) (name : FileName) (
 
 -- it was given up while pages were copied
 pub given_up_copying : (begun old now : Told) (min : ℕ) (plan : List FileName) (path : List ℕ) (fault : MergeFault)
-    → GoesOn begun old (StopsCopying min plan path fault) → StillKeepsOthers path old now → GoesOn begun now (LeavesPlan min plan path fault)
+    → GoesOn begun old (StopsCopying min plan path fault) → StillKeepsOthers path old now
+    → GoesOn begun now (LeavesPlan min plan path fault)
 given_up_copying begun old now min plan path (Damaged name damage) stops still =
-    let kept = still begun (goes_on-weaker begun old (StopsCopying min plan path (Damaged name damage)) (KeepsOthers path) stops
+    let kept = still begun (goes_on-weaker begun old (StopsCopying min plan path (Damaged name damage))
+    (KeepsOthers path) stops
     (λ x y both. both.1)) in
     record {
       told = λ events told.
@@ -200,7 +219,8 @@ given_up_copying begun old now min plan path (Damaged name damage) stops still =
       silent = kept.silent;
     }
 given_up_copying begun old now min plan path (PageMissing name number) stops still =
-    let kept = still begun (goes_on-weaker begun old (StopsCopying min plan path (PageMissing name number)) (KeepsOthers path) stops
+    let kept = still begun (goes_on-weaker begun old (StopsCopying min plan path (PageMissing name number))
+    (KeepsOthers path) stops
     (λ x y both. both.2)) in
     record {
       told = λ events told.
@@ -209,11 +229,13 @@ given_up_copying begun old now min plan path (PageMissing name number) stops sti
       silent = kept.silent;
     }
 given_up_copying begun old now min plan path (Store fault) stops still =
-    goes_on-weaker begun now (KeepsOthers path) (LeavesPlan min plan path (Store fault)) (still begun stops) (λ x y kept. inl kept)
+    goes_on-weaker begun now (KeepsOthers path) (LeavesPlan min plan path (Store fault)) (still begun stops)
+    (λ x y kept. inl kept)
 given_up_copying begun old now min plan path Memory stops still = still begun stops
 
 -- or before them
-pub given_up_before : (begun now : Told) (min : ℕ) (plan : List FileName) (path : List ℕ) (fault : MergeFault) → IsOfDiskOrMemory fault
+pub given_up_before : (begun now : Told) (min : ℕ) (plan : List FileName) (path : List ℕ) (fault : MergeFault)
+    → IsOfDiskOrMemory fault
     → GoesOn begun now (KeepsOthers path) → GoesOn begun now (LeavesPlan min plan path fault)
 given_up_before begun now min plan path (Damaged name damage) of kept = absurd of
 given_up_before begun now min plan path (PageMissing name number) of kept = absurd of
@@ -222,7 +244,8 @@ given_up_before begun now min plan path (Store fault) of kept =
 given_up_before begun now min plan path Memory of kept = kept
 
 -- the files were not opened
-pub not_opened : (begun now : Told) (min : ℕ) (plan : List FileName) (path : List ℕ) (fault : CursorsFault) → now ≡ begun
+pub not_opened : (begun now : Told) (min : ℕ) (plan : List FileName) (path : List ℕ) (fault : CursorsFault)
+    → now ≡ begun
     → Blames begun plan fault → ((name : FileName) (number : ℕ) → fault ≡ found.PageMissing name number → ⊥)
     → GoesOn begun now (LeavesPlan min plan path (fault_of fault))
 not_opened begun now min plan path (found.Damaged name damage) same blames none = record {
@@ -241,15 +264,18 @@ pub header_sized : (cursors : Cursors) (name : FileName) (h : LtxHeader) → Mer
     → HaveSize cursors.size cursors.cursors.items → h.size ≡ cursors.size
 header_sized cursors name h merges sized =
     ap (λ (k : LtxHeader). k.size) merges.is
-    ∙ sized (length merges.before) merges.last (ap (λ (cs : List Cursor). slice_get cs (length merges.before)) merges.ends
+    ∙ sized (length merges.before) merges.last
+    (ap (λ (cs : List Cursor). slice_get cs (length merges.before)) merges.ends
     ∙ place_of_last merges.before merges.last)
 
-pub if_err_weaker : {T : Type 0} (r : Result T MergeFault) (P Q : MergeFault → Type 0) → ((fault : MergeFault) → P fault → Q fault)
+pub if_err_weaker : {T : Type 0} (r : Result T MergeFault) (P Q : MergeFault → Type 0)
+    → ((fault : MergeFault) → P fault → Q fault)
     → IfErr r P → IfErr r Q
 if_err_weaker (Ok x) P Q more holds = tt
 if_err_weaker (Err e) P Q more holds = more e holds
 
-pub stops_named : (begun now : Told) (header_min min : ℕ) (given plan : List FileName) (put path : List ℕ) (fault : MergeFault)
+pub stops_named : (begun now : Told) (header_min min : ℕ) (given plan : List FileName) (put path : List ℕ)
+    (fault : MergeFault)
     → header_min ≡ min → given ≡ plan → put ≡ path → GoesOn begun now (StopsCopying header_min given put fault)
     → GoesOn begun now (StopsCopying min plan path fault)
 stops_named begun now header_min min given plan put path fault is same named stops =
@@ -258,7 +284,8 @@ stops_named begun now header_min min given plan put path fault is same named sto
     (subst (λ (p : List ℕ). GoesOn begun now (StopsCopying header_min given p fault)) named stops))
 
 pub copied_named : (begun now : Told) (header_min min : ℕ) (given plan : List FileName) (size : ℕ) (draft : Draft)
-    → header_min ≡ min → given ≡ plan → HasCopied begun now header_min given size draft → HasCopied begun now min plan size draft
+    → header_min ≡ min → given ≡ plan → HasCopied begun now header_min given size draft
+    → HasCopied begun now min plan size draft
 copied_named begun now header_min min given plan size draft is same copied =
     subst (λ (m : ℕ). HasCopied begun now m plan size draft) is
     (subst (λ (ns : List FileName). HasCopied begun now header_min ns size draft) same copied)

@@ -1,5 +1,6 @@
 -- What was copied is the merge of the files.
-use Rattle.std.proofs.Common.{◌≡◌, ◌≢◌, ℕ, zero, suc, ◌+◌, ◌^◌, ◌<◌, ◌≤◌, true, List, [], ◌∷◌, ◌++◌, length, drop, take, Option, Some, None, refl, sym, ap, subst, ◌∙◌, inl, inr, arith}
+use Rattle.std.proofs.Common.{◌≡◌, ◌≢◌, ℕ, zero, suc, ◌+◌, ◌^◌, ◌<◌, ◌≤◌, true, List, [], ◌∷◌, ◌++◌, length, drop, take}
+use Rattle.std.proofs.Common.{Option, Some, None, refl, sym, ap, subst, ◌∙◌, inl, inr, arith}
 use Rattle.std.specs.Prelude.{map, slice_get, IsSome, is_some, ◌⊎◌}
 use Rattle.std.specs.Option.{option_or}
 use Rattle.std.specs.FinMap.{get}
@@ -54,7 +55,8 @@ last_same (z ∷ []) [] x y e = absurd (omega (arith, ap length e))
 last_same (z ∷ w ∷ a) [] x y e = absurd (omega (arith, ap length e))
 last_same {X = X} (z ∷ a) (w ∷ b) x y e = last_same a b x y (ap (λ (xs : List X). drop 1 xs) e)
 
-pub names_end : (before : List Cursor) (last : Cursor) → names_of (before ++ last ∷ []) ≡ names_of before ++ last.name ∷ []
+pub names_end : (before : List Cursor) (last : Cursor) → names_of (before ++ last ∷ []) ≡ names_of before ++ last.name
+    ∷ []
 names_end [] last = refl
 names_end (cursor ∷ before) last = ap (λ (ns : List FileName). cursor.name ∷ ns) (names_end before last)
 
@@ -104,8 +106,10 @@ none_of None not = refl
 none_of (Some page) not = absurd (not refl)
 
 -- what no file may hold, none has
-pub last_none : (files : Files) (plan : List FileName) (read : List LtxFile) (size p : ℕ) → AreFilesUnder files plan read
-    → HavePageSize size read → ((h : LtxHeader) → h.size ≡ size → IsStored h p → ⊥) → last_page (map change_of read) p ≡ None
+pub last_none : (files : Files) (plan : List FileName) (read : List LtxFile) (size p : ℕ)
+    → AreFilesUnder files plan read
+    → HavePageSize size read → ((h : LtxHeader) → h.size ≡ size → IsStored h p → ⊥)
+    → last_page (map change_of read) p ≡ None
 last_none files plan [] size p are sized not = refl
 last_none files [] (file ∷ read) size p are sized not = absurd are
 last_none files (name ∷ plan) (file ∷ read) size p (here, are) (own, sized) not =
@@ -131,7 +135,8 @@ not_zero h p is stored = omega (arith, is, stored.some)
 not_lock : (h : LtxHeader) (size p : ℕ) → p ≡ lock_page size → h.size ≡ size → IsStored h p → ⊥
 not_lock h size p is same stored = stored.unlocked (is ∙ ap lock_page (sym same))
 
-module _ (files : Files) (plan : List FileName) (size : ℕ) (h : LtxHeader) (given : Blocks) (pages : PageMap) (same : h.size ≡ size)
+module _ (files : Files) (plan : List FileName) (size : ℕ) (h : LtxHeader) (given : Blocks) (pages : PageMap)
+    (same : h.size ≡ size)
     (min : ℕ) (all : HaveCopied min files plan size given) (copied : AreCopied h given pages) where
   abbrev changes : List Change
   changes = map change_of all.read
@@ -140,7 +145,8 @@ module _ (files : Files) (plan : List FileName) (size : ℕ) (h : LtxHeader) (gi
       → get pages p ≡ last_page changes p
   merged_page p low (inl stored) = copied.stored p stored ∙ all.pages p
   merged_page p low (inr (inl is)) =
-      copied.others p (not_zero h p is) ∙ sym (last_none files plan all.read size p all.are all.one_size (λ k e. not_zero k p is))
+      copied.others p (not_zero h p is)
+      ∙ sym (last_none files plan all.read size p all.are all.one_size (λ k e. not_zero k p is))
   merged_page p low (inr (inr (inl past))) = absurd (omega (arith, low, past))
   merged_page p low (inr (inr (inr is))) =
       let lock : p ≡ lock_page size = is ∙ ap lock_page same in
@@ -168,7 +174,8 @@ module _ (files : Files) (plan : List FileName) (size : ℕ) (h : LtxHeader) (gi
       ap is_some (copied.stored number stored ∙ all.pages number ∙ sym page ∙ there.1)
 
 -- a list ends with what stands last
-pub split_last : (cursors : List Cursor) (at : ℕ) (last : Cursor) → at + 1 ≡ length cursors → slice_get cursors at ≡ Some last
+pub split_last : (cursors : List Cursor) (at : ℕ) (last : Cursor) → at + 1 ≡ length cursors
+    → slice_get cursors at ≡ Some last
     → cursors ≡ take at cursors ++ last ∷ []
 split_last [] at last count is = absurd (omega (arith, count))
 split_last (cursor ∷ []) zero last count is = let same : cursor ≡ last = cc in ap (λ (c : Cursor). c ∷ []) same

@@ -15,7 +15,8 @@ use Rattle.replica_store.proofs.ImageLemmas.{others_start}
 use Rattle.compact_levels.specs.declared.merge_fault.MergeFault.{MergeFault}
 use Rattle.compact_levels.specs.declared.merge_fault.MergeFault.TheVariants.{Damaged, PageMissing, Store, Memory}
 use Rattle.compact_levels.specs.declared.run.Run.{Run}
-use Rattle.compact_levels.specs.Merged.{AreRunFiles, HasMerged, HasMergedPlan, IsMergeOfPlan, IsNameOf, LeavesPlan, LeavesUnmerged}
+use Rattle.compact_levels.specs.Merged.{AreRunFiles, HasMerged, HasMergedPlan, IsMergeOfPlan, IsNameOf, LeavesPlan}
+use Rattle.compact_levels.specs.Merged.{LeavesUnmerged}
 use Rattle.compact_levels.specs.Merged.{MayHaveMerged, MayHaveMergedPlan, Merges, Spans, run_path}
 use Rattle.compact_levels.specs.RunFiles.{IsMemory}
 use Rattle.compact_levels.proofs.RunOfLemmas.{spans}
@@ -31,9 +32,11 @@ pub no_files : (told : Told) (names : List FileName) (run : Run) (fault : MergeF
 no_files told names run (Damaged name damage) of = absurd of
 no_files told names run (PageMissing name number) of = absurd of
 no_files told names run (Store fault) of = absurd of
-no_files told names run Memory of = goes_on-same told told (LeavesUnmerged names run Memory) refl (λ events. others_start (run_path run) events)
+no_files told names run Memory of = goes_on-same told told (LeavesUnmerged names run Memory) refl
+    (λ events. others_start (run_path run) events)
 
-pub run_spans : (names : List FileName) (run : Run) (plan : List FileName) (name : FileName) → AreRunFiles names run plan
+pub run_spans : (names : List FileName) (run : Run) (plan : List FileName) (name : FileName)
+    → AreRunFiles names run plan
     → IsNameOf run name → Spans plan name.min name.max
 run_spans names run plan name are named =
     subst (λ (m : ℕ). Spans plan m name.max) (sym named.min)
@@ -51,7 +54,8 @@ module _ (names : List FileName) (run : Run) (plan : List FileName) (name : File
   path : path_of name ≡ run_path run
   path = path_is run name named
 
-  pub has_merged_run : (begun now : Told) → GoesOn begun now (HasMergedPlan plan (path_of name)) → GoesOn begun now (HasMerged names run)
+  pub has_merged_run : (begun now : Told) → GoesOn begun now (HasMergedPlan plan (path_of name))
+      → GoesOn begun now (HasMerged names run)
   has_merged_run begun now put =
       goes_on-weaker begun now (HasMergedPlan plan (path_of name)) (HasMerged names run) put (λ x y has. record {
         bytes = has.bytes;
@@ -71,10 +75,12 @@ module _ (names : List FileName) (run : Run) (plan : List FileName) (name : File
   kept_run : (x y : List Event) → KeepsOthers (path_of name) x y → KeepsOthers (run_path run) x y
   kept_run x y kept = subst (λ (p : List ℕ). KeepsOthers p x y) path kept
 
-  pub leaves_unmerged : (begun now : Told) (fault : MergeFault) → GoesOn begun now (LeavesPlan name.min plan (path_of name) fault)
+  pub leaves_unmerged : (begun now : Told) (fault : MergeFault)
+      → GoesOn begun now (LeavesPlan name.min plan (path_of name) fault)
       → GoesOn begun now (LeavesUnmerged names run fault)
   leaves_unmerged begun now (Damaged bad damage) leaves =
-      goes_on-weaker begun now (LeavesPlan name.min plan (path_of name) (Damaged bad damage)) (LeavesUnmerged names run (Damaged bad damage)) leaves
+      goes_on-weaker begun now (LeavesPlan name.min plan (path_of name) (Damaged bad damage))
+      (LeavesUnmerged names run (Damaged bad damage)) leaves
       (λ x y is. (
         record {
           of = are.of;
@@ -83,7 +89,8 @@ module _ (names : List FileName) (run : Run) (plan : List FileName) (name : File
         kept_run x y is.1,
       ))
   leaves_unmerged begun now (PageMissing bad number) leaves =
-      goes_on-weaker begun now (LeavesPlan name.min plan (path_of name) (PageMissing bad number)) (LeavesUnmerged names run (PageMissing bad number))
+      goes_on-weaker begun now (LeavesPlan name.min plan (path_of name) (PageMissing bad number))
+      (LeavesUnmerged names run (PageMissing bad number))
       leaves
       (λ x y is. (
         record {
@@ -94,6 +101,8 @@ module _ (names : List FileName) (run : Run) (plan : List FileName) (name : File
         kept_run x y is.2,
       ))
   leaves_unmerged begun now (Store fault) leaves =
-      goes_on-weaker begun now (LeavesPlan name.min plan (path_of name) (Store fault)) (LeavesUnmerged names run (Store fault)) leaves may_have
+      goes_on-weaker begun now (LeavesPlan name.min plan (path_of name) (Store fault))
+      (LeavesUnmerged names run (Store fault)) leaves may_have
   leaves_unmerged begun now Memory leaves =
-      goes_on-weaker begun now (LeavesPlan name.min plan (path_of name) Memory) (LeavesUnmerged names run Memory) leaves kept_run
+      goes_on-weaker begun now (LeavesPlan name.min plan (path_of name) Memory) (LeavesUnmerged names run Memory)
+      leaves kept_run

@@ -20,7 +20,8 @@ copied_whole files cursors given min has = record {
   hold = λ one. has.hold;
 }
 
-copied_later : (files : Files) (cursors : Cursors) (given : Blocks) (min : ℕ) → (min ≡ 1 → ⊥) → HaveAllRead files cursors given
+copied_later : (files : Files) (cursors : Cursors) (given : Blocks) (min : ℕ) → (min ≡ 1 → ⊥)
+    → HaveAllRead files cursors given
     → HaveCopied min files (plan_of cursors) cursors.size given
 copied_later files cursors given min later has = record {
   read = has.read;
@@ -36,7 +37,8 @@ Ended told cursors min next =
     → HaveCopied min (files_after events) (plan_of cursors) cursors.size given))
 
 pub ended_whole : (r : Result (Option ℕ) CursorsFault) (told : Told) (cursors : Cursors) (min : ℕ)
-    → IfOk r (λ next. IfNone next (IfTold told (λ events. (given : Blocks) → HaveGiven (files_after events) cursors given
+    → IfOk r (λ next. IfNone next (IfTold told
+    (λ events. (given : Blocks) → HaveGiven (files_after events) cursors given
     → HaveRead (files_after events) cursors given))) → IfOk r (Ended told cursors min)
 ended_whole (Err fault) told cursors min ended = tt
 ended_whole (Ok (Some n)) told cursors min ended = tt
@@ -44,7 +46,8 @@ ended_whole (Ok None) told cursors min ended = λ events is given has.
     copied_whole (files_after events) cursors given min (ended events is given has)
 
 pub ended_later : (r : Result (Option ℕ) CursorsFault) (told : Told) (cursors : Cursors) (min : ℕ) → (min ≡ 1 → ⊥)
-    → IfOk r (λ next. IfNone next (IfTold told (λ events. (given : Blocks) → HaveGiven (files_after events) cursors given
+    → IfOk r (λ next. IfNone next (IfTold told
+    (λ events. (given : Blocks) → HaveGiven (files_after events) cursors given
     → HaveAllRead (files_after events) cursors given))) → IfOk r (Ended told cursors min)
 ended_later (Err fault) told cursors min later ended = tt
 ended_later (Ok (Some n)) told cursors min later ended = tt

@@ -1,5 +1,6 @@
 -- Finding the files of a run.
-use Rattle.std.proofs.Common.{◌≡◌, ◌≢◌, ℕ, zero, suc, ◌+◌, ◌-◌, ◌<◌, ◌≤◌, List, [], ◌∷◌, ◌++◌, length, take, drop, get_or, Option, Some, None, refl, sym, ap, subst, ◌∙◌, inl, inr, arith}
+use Rattle.std.proofs.Common.{◌≡◌, ◌≢◌, ℕ, zero, suc, ◌+◌, ◌-◌, ◌<◌, ◌≤◌, List, [], ◌∷◌, ◌++◌, length, take, drop}
+use Rattle.std.proofs.Common.{get_or, Option, Some, None, refl, sym, ap, subst, ◌∙◌, inl, inr, arith}
 use Rattle.std.specs.Prelude.{slice_get, IfSome}
 use Rattle.std.specs.List.{All}
 use Rattle.std.proofs.lemmas.Bool.{cases_lt, cases_order}
@@ -38,7 +39,8 @@ all_not : (P : FileName → Type 0) (before : List FileName) (k : ℕ) (name : F
 all_not P before k name all is =
     let has = contains_at before k name is in subst P has.2 (all has.0 name has.1)
 
-take_next : (first : FileName) (rest behind : List FileName) → take (1 + length rest) (first ∷ (rest ++ behind)) ≡ first ∷ rest
+take_next : (first : FileName) (rest behind : List FileName)
+    → take (1 + length rest) (first ∷ (rest ++ behind)) ≡ first ∷ rest
 take_next first rest behind =
     let one : 1 + length rest ≡ suc (length rest) = omega arith in
     ap (λ (k : ℕ). take k (first ∷ (rest ++ behind))) one
@@ -59,7 +61,8 @@ same_at names at a d low is =
 -- so many of the names go on, and the last of them ends here
 pub record HaveGoneOn (level end : ℕ) (names : List FileName) (at now : ℕ) : Type 0 where
   pub all : (rest behind : List FileName) (to : ℕ) → names ≡ rest ++ behind → IsGapless level end rest to
-      → EndsAt level to behind → (left : List FileName) × (drop at rest ≡ left) × (at ≤ length rest) × IsGapless level now left to
+      → EndsAt level to behind → (left : List FileName) × (drop at rest ≡ left) × (at ≤ length rest)
+      × IsGapless level now left to
 
 pub none_gone : (level end : ℕ) (names : List FileName) → HaveGoneOn level end names 0 end
 none_gone level end names = record { all = λ rest behind to split gapless ends. (rest, refl, omega arith, gapless) }
@@ -81,7 +84,8 @@ name_there : (front left behind : List FileName) (at : ℕ) (name : FileName) �
 name_there [] left behind zero name is there = there
 name_there [] left behind (suc at) name is there = absurd (omega (arith, is))
 name_there (first ∷ front) left behind zero name is there = absurd (omega (arith, is))
-name_there (first ∷ front) left behind (suc at) name is there = name_there front left behind at name (omega (arith, is)) there
+name_there (first ∷ front) left behind (suc at) name is there = name_there front left behind at name
+    (omega (arith, is)) there
 
 drop_next : (front : List FileName) (name : FileName) (left : List FileName) (at : ℕ) → length front ≡ at
     → drop (at + 1) (front ++ name ∷ left) ≡ left
@@ -102,8 +106,10 @@ not_behind level to (first ∷ behind) name ends is goes =
 module _ (level end : ℕ) (names : List FileName) (at now : ℕ) (name : FileName) (there : slice_get names at ≡ Some name)
     (gone : HaveGoneOn level end names at now) where
   next_left : (rest behind : List FileName) (to : ℕ) → names ≡ rest ++ behind → EndsAt level to behind
-      → (left : List FileName) → drop at rest ≡ left → at ≤ length rest → IsGapless level now left to → GoesOnFrom level now name
-      → (further : List FileName) × (drop (at + 1) rest ≡ further) × (at + 1 ≤ length rest) × IsGapless level name.max further to
+      → (left : List FileName) → drop at rest ≡ left → at ≤ length rest → IsGapless level now left to
+      → GoesOnFrom level now name
+      → (further : List FileName) × (drop (at + 1) rest ≡ further) × (at + 1 ≤ length rest)
+      × IsGapless level name.max further to
   next_left rest behind to split ends [] is low gapless goes =
       let parts = left_of rest at [] is low in
       let here = name_there parts.0 [] behind at name parts.2
@@ -130,7 +136,8 @@ module _ (level end : ℕ) (names : List FileName) (at now : ℕ) (name : FileNa
         next_left rest behind to split ends so_far.0 so_far.1 so_far.2 so_far.3 goes;
   }
 
-  none_left : (rest behind : List FileName) (to : ℕ) → names ≡ rest ++ behind → (left : List FileName) → drop at rest ≡ left
+  none_left : (rest behind : List FileName) (to : ℕ) → names ≡ rest ++ behind → (left : List FileName)
+      → drop at rest ≡ left
       → at ≤ length rest → IsGapless level now left to → (GoesOnFrom level now name → ⊥) → at ≡ length rest
   none_left rest behind to split [] is low gapless not =
       let parts = left_of rest at [] is low in omega (arith, ap length parts.1, length-append parts.0 [], parts.2)
@@ -148,8 +155,10 @@ module _ (level end : ℕ) (names : List FileName) (at now : ℕ) (name : FileNa
       let so_far = gone.all rest behind to split gapless ends in
       none_left rest behind to split so_far.0 so_far.1 so_far.2 so_far.3 not
 
-pub stops_at_end : (level end : ℕ) (names : List FileName) (at now : ℕ) → HaveGoneOn level end names at now → length names ≤ at
-    → (rest behind : List FileName) (to : ℕ) → names ≡ rest ++ behind → IsGapless level end rest to → EndsAt level to behind
+pub stops_at_end : (level end : ℕ) (names : List FileName) (at now : ℕ) → HaveGoneOn level end names at now
+    → length names ≤ at
+    → (rest behind : List FileName) (to : ℕ) → names ≡ rest ++ behind → IsGapless level end rest to
+    → EndsAt level to behind
     → length names ≡ length rest
 stops_at_end level end names at now gone over rest behind to split gapless ends =
     let so_far = gone.all rest behind to split gapless ends in
@@ -171,11 +180,14 @@ module _ (level min : ℕ) (names before : List FileName) (first : FileName) (re
   first_there : slice_get names (length before) ≡ Some first
   first_there = ap (λ (ns : List FileName). slice_get ns (length before)) parts ∙ at_front before first (rest ++ behind)
 
-  not_before : (at : ℕ) (name : FileName) → slice_get names at ≡ Some name → BeginsWith level min name → at < length before → ⊥
+  not_before : (at : ℕ) (name : FileName) → slice_get names at ≡ Some name → BeginsWith level min name
+      → at < length before → ⊥
   not_before at name is begins low =
       let found = in_front before (first ∷ (rest ++ behind)) at low in
-      let same = one_name (slice_get names at) name found.0 is (ap (λ (ns : List FileName). slice_get ns at) parts ∙ found.1) in
-      all_not (λ n. BeginsWith level min n → ⊥) before at found.0 pile.earlier found.2 (subst (BeginsWith level min) same begins)
+      let same = one_name (slice_get names at) name found.0 is
+      (ap (λ (ns : List FileName). slice_get ns at) parts ∙ found.1) in
+      all_not (λ n. BeginsWith level min n → ⊥) before at found.0 pile.earlier found.2
+      (subst (BeginsWith level min) same begins)
 
   pub found_at : (at : ℕ) (name : FileName) → slice_get names at ≡ Some name → BeginsWith level min name
       → ((k : ℕ) (other : FileName) → k < at → slice_get names k ≡ Some other → BeginsWith level min other → ⊥)
@@ -193,22 +205,27 @@ module _ (level min : ℕ) (names before : List FileName) (first : FileName) (re
       )
 
   pub behind_it : (at : ℕ) → at ≡ length before → drop (at + 1) names ≡ rest ++ behind
-  behind_it at is = ap (λ (ns : List FileName). drop (at + 1) ns) parts ∙ drop_next before first (rest ++ behind) at (sym is)
+  behind_it at is = ap (λ (ns : List FileName). drop (at + 1) ns) parts
+      ∙ drop_next before first (rest ++ behind) at (sym is)
 
-  pub files_at : (at count : ℕ) → at ≡ length before → count ≡ length rest → take (1 + count) (drop at names) ≡ first ∷ rest
+  pub files_at : (at count : ℕ) → at ≡ length before → count ≡ length rest
+      → take (1 + count) (drop at names) ≡ first ∷ rest
   files_at at count is all =
-      ap (λ (k : ℕ). take (1 + count) (drop k names)) is ∙ ap (λ (ns : List FileName). take (1 + count) (drop (length before) ns)) parts
+      ap (λ (k : ℕ). take (1 + count) (drop k names)) is
+      ∙ ap (λ (ns : List FileName). take (1 + count) (drop (length before) ns)) parts
       ∙ ap (λ (ns : List FileName). take (1 + count) ns) (drop_front before (first ∷ (rest ++ behind)))
       ∙ ap (λ (k : ℕ). take (1 + k) (first ∷ (rest ++ behind))) all
       ∙ take_next first rest behind
 
-  pub not_missing : ((k : ℕ) (other : FileName) → k < length names → slice_get names k ≡ Some other → BeginsWith level min other → ⊥) → ⊥
+  pub not_missing : ((k : ℕ) (other : FileName) → k < length names → slice_get names k ≡ Some other
+      → BeginsWith level min other → ⊥) → ⊥
   not_missing none =
       none (length before) first
       (omega (arith, ap length parts, length-append before (first ∷ (rest ++ behind)))) first_there pile.begins
 
 -- none of the names up to one begins so
-pub none_begins : (names : List FileName) (at level min : ℕ) (here : FileName) → at < length names → here ≡ get_or names at here
+pub none_begins : (names : List FileName) (at level min : ℕ) (here : FileName) → at < length names
+    → here ≡ get_or names at here
     → (BeginsWith level min here → ⊥)
     → ((k : ℕ) (name : FileName) → k < at → slice_get names k ≡ Some name → BeginsWith level min name → ⊥)
     → (k : ℕ) (name : FileName) → k < at + 1 → slice_get names k ≡ Some name → BeginsWith level min name → ⊥
@@ -226,5 +243,6 @@ pub read_at : (names : List FileName) (at : ℕ) (here : FileName) → at < leng
     → slice_get names at ≡ Some here
 read_at names at here low is = slice_get-get_or names at here low ∙ ap (λ (n : FileName). Some n) (sym is)
 
-pub one_read : (names : List FileName) (at : ℕ) (a b : FileName) → slice_get names at ≡ Some a → slice_get names at ≡ Some b → a ≡ b
+pub one_read : (names : List FileName) (at : ℕ) (a b : FileName) → slice_get names at ≡ Some a
+    → slice_get names at ≡ Some b → a ≡ b
 one_read names at a b = one_name (slice_get names at) a b

@@ -28,7 +28,8 @@ run_retained names run of nine =
       leads = chosen_leads names run.max 0 (of.first ∷ of.rest) run.max whole.chain;
     }
 
-chain_begins : (names : List FileName) (run : Run) (of : IsRun names run) (nine : run.level ≡ 9) (first : FileName) (rest : List FileName)
+chain_begins : (names : List FileName) (run : Run) (of : IsRun names run) (nine : run.level ≡ 9) (first : FileName)
+    (rest : List FileName)
     → IsChosenChain names run.max (first ∷ rest) → first.min ≡ run.min
 chain_begins names run of nine first rest chosen =
     let whole = of.files.whole nine in
@@ -69,7 +70,8 @@ begins_beyond level after min first name first_begins is begins = record {
 }
 
 pub pile_behind : (names : List FileName) (level after min : ℕ) (first : FileName) (rest : List FileName) (to : ℕ)
-    → (pile : IsPile names level after first rest to) → first.min ≡ min → IsPileBehind level min pile.before first rest to
+    → (pile : IsPile names level after first rest to) → first.min ≡ min
+    → IsPileBehind level min pile.before first rest to
 pile_behind names level after min first rest to pile is = record {
   earlier = λ k d low begins. pile.passed k d low (begins_beyond level after min first _ pile.begins is begins);
   begins = record { of_level = pile.begins.of_level; begins = is };
@@ -79,13 +81,16 @@ pile_behind names level after min first rest to pile is = record {
 -- what finding a pile says
 abbrev pub FindsPile : List FileName → ℕ → ℕ → List FileName → Type 0
 FindsPile names level min found =
-    (before : List FileName) (first : FileName) (rest behind : List FileName) (to : ℕ) → names ≡ before ++ first ∷ rest ++ behind
+    (before : List FileName) (first : FileName) (rest behind : List FileName) (to : ℕ)
+    → names ≡ before ++ first ∷ rest ++ behind
     → IsPileBehind level min before first rest to → EndsAt level to behind → found ≡ first ∷ rest
 
-pub pile_files : (names : List FileName) (run : Run) (level : ℕ) (found files : List FileName) → IsRun names run → run.level ≢ 9
+pub pile_files : (names : List FileName) (run : Run) (level : ℕ) (found files : List FileName) → IsRun names run
+    → run.level ≢ 9
     → level ≡ run.level - 1 → FindsPile names level run.min found → files ≡ found → AreRunFiles names run files
 pile_files names run level found files of other below finds same =
-    let pile : IsPile names level of.files.after of.first of.rest run.max = subst (λ (l : ℕ). IsPile names l of.files.after of.first
+    let pile : IsPile names level of.files.after of.first of.rest run.max =
+    subst (λ (l : ℕ). IsPile names l of.files.after of.first
     of.rest run.max) (sym below) (of.files.piled other) in
     record {
       of = of;
@@ -95,7 +100,8 @@ pile_files names run level found files of other below finds same =
 
 -- ---- what they span
 
-pub spans : (names : List FileName) (run : Run) (files : List FileName) → AreRunFiles names run files → Spans files run.min run.max
+pub spans : (names : List FileName) (run : Run) (files : List FileName) → AreRunFiles names run files
+    → Spans files run.min run.max
 spans names run files are =
     let end = run_end names run are.of.first are.of.rest are.of.files in
     record {
@@ -110,7 +116,8 @@ spans names run files are =
     }
 
 -- a run that is due is one that the names have
-pub due_is_run : (dated : List Dated) (now : ℕ) (run : Run) (names : List FileName) → IsDue dated now run → names ≡ names_of dated
+pub due_is_run : (dated : List Dated) (now : ℕ) (run : Run) (names : List FileName) → IsDue dated now run
+    → names ≡ names_of dated
     → IsRun names run
 due_is_run dated now run names is same = record {
   first = is.first;

@@ -22,7 +22,8 @@ AreIn files names = (name : FileName) → Contains names name → IsIn files nam
 abbrev pub MergesKeepFaith : Type 0
 MergesKeepFaith =
     (files : Files) (history : History) (log : SyncLog) (names : List FileName) (run : Run) (name : FileName)
-    (bytes : List ℕ) → IsFaithful files history log → AreIn files names → IsName run.level run.min run.max → Merges files names run bytes
+    (bytes : List ℕ) → IsFaithful files history log → AreIn files names → IsName run.level run.min run.max
+    → Merges files names run bytes
     → IsNameOf run name → IsMergedFile history log name bytes
 
 -- no file of a run that tells the truth is damaged

@@ -176,7 +176,8 @@ pub explains_sooner : (store : Told) (plan : List FileName) (name : List ℕ) (o
     → ExplainsRestore store plan name old new store_mid store_now before now fault
     → ExplainsRestore store plan name old new store_before store_now before now fault
 explains_sooner store plan name old new store_before store_mid store_now before now (Damaged file damage) low why = why
-explains_sooner store plan name old new store_before store_mid store_now before now (PageMissing file number) low why = why
+explains_sooner store plan name old new store_before store_mid store_now before now (PageMissing file number) low why
+    = why
 explains_sooner store plan name old new store_before store_mid store_now before now (Store fault) low why =
     (why.0, rose_later store_before store_mid store_now low why.1)
 explains_sooner store plan name old new store_before store_mid store_now before now (Target fault) low why = why

@@ -5,9 +5,14 @@ use Rattle.std.proofs.lemmas.List.{length-append}
 use Rattle.crash_disk.specs.declared.event.Event.{Event}
 use Rattle.crash_disk.specs.declared.event.Event.TheVariants.{Created, Synced, Removed}
 use Rattle.crash_disk.specs.Files.{file_at}
-use Rattle.crash_disk.proofs.FileLaws.{file_at-Created-here, file_at-Created-other, file_at-Synced, file_at-NamesSynced, file_at-Renamed-to, file_at-Renamed-from, file_at-Renamed-other, file_at-Removed-here, file_at-Removed-other}
-use Rattle.restore_apply.specs.Staging.{temporary_name, MayBegin, Fills, Names, MayName, Began, Synchronized, Named, Settles, MaySettle, Left, Cleared, WritesFile, MayWriteFile, LeavesUnwritten, LeavesNoTrace, Lacks}
-use Rattle.restore_apply.proofs.StopLemmas.{stop_may_name, stop_settled, settled_stays, stop_cleared, none_begun, none_cleared}
+use Rattle.crash_disk.proofs.FileLaws.{file_at-Created-here, file_at-Created-other, file_at-Synced, file_at-NamesSynced}
+use Rattle.crash_disk.proofs.FileLaws.{file_at-Renamed-to, file_at-Renamed-from, file_at-Renamed-other}
+use Rattle.crash_disk.proofs.FileLaws.{file_at-Removed-here, file_at-Removed-other}
+use Rattle.restore_apply.specs.Staging.{temporary_name, MayBegin, Fills, Names, MayName, Began, Synchronized, Named}
+use Rattle.restore_apply.specs.Staging.{Settles, MaySettle, Left, Cleared, WritesFile, MayWriteFile, LeavesUnwritten}
+use Rattle.restore_apply.specs.Staging.{LeavesNoTrace, Lacks}
+use Rattle.restore_apply.proofs.StopLemmas.{stop_may_name, stop_settled, settled_stays, stop_cleared, none_begun}
+use Rattle.restore_apply.proofs.StopLemmas.{none_cleared}
 use Rattle.restore_apply.proofs.StagingLemmas.{file_at-appended-here, file_at-appended-other}
 
 -- the temporary name is another one
@@ -20,48 +25,67 @@ name_apart name same = temporary_apart name (sym same)
 -- a filled file has its bytes
 filled_here : (name bytes : List ℕ) (x y : List Event) → Fills name bytes x y → file_at y name ≡ Some bytes
 filled_here name bytes x y fills =
-    ap (λ (es : List Event). file_at es name) fills.record_is ∙ file_at-appended-here name fills.pieces (Created name ∷ x) [] (file_at-Created-here x name) ∙ ap (λ b. Some b) fills.whole
+    ap (λ (es : List Event). file_at es name) fills.record_is
+    ∙ file_at-appended-here name fills.pieces (Created name ∷ x) [] (file_at-Created-here x name)
+    ∙ ap (λ b. Some b) fills.whole
 
 filled_other : (name bytes q : List ℕ) (x y : List Event) → Fills name bytes x y → q ≢ name → file_at y q ≡ file_at x q
 filled_other name bytes q x y fills apart =
-    ap (λ (es : List Event). file_at es q) fills.record_is ∙ file_at-appended-other name q fills.pieces (Created name ∷ x) apart ∙ file_at-Created-other x name q apart
+    ap (λ (es : List Event). file_at es q) fills.record_is ∙ file_at-appended-other name q fills.pieces
+    (Created name ∷ x) apart ∙ file_at-Created-other x name q apart
 
 begun_other : (name q : List ℕ) (x y : List Event) → MayBegin name x y → q ≢ name → file_at y q ≡ file_at x q
 begun_other name q x y (inl same) apart = ap (λ (es : List Event). file_at es q) same
 begun_other name q x y (inr begins) apart =
-    ap (λ (es : List Event). file_at es q) begins.record_is ∙ file_at-appended-other name q begins.pieces (Created name ∷ x) apart ∙ file_at-Created-other x name q apart
+    ap (λ (es : List Event). file_at es q) begins.record_is ∙ file_at-appended-other name q begins.pieces
+    (Created name ∷ x) apart ∙ file_at-Created-other x name q apart
 
-synced_here : (name bytes : List ℕ) (x y : List Event) → Fills name bytes x y → file_at (Synced name ∷ y) name ≡ Some bytes
+synced_here : (name bytes : List ℕ) (x y : List Event) → Fills name bytes x y
+    → file_at (Synced name ∷ y) name ≡ Some bytes
 synced_here name bytes x y fills = file_at-Synced y name name ∙ filled_here name bytes x y fills
 
 -- once it was renamed, the bytes stand under the name
-named_here : (temporary name bytes : List ℕ) (x z : List Event) → Names temporary name bytes x z → file_at z name ≡ Some bytes
+named_here : (temporary name bytes : List ℕ) (x z : List Event) → Names temporary name bytes x z
+    → file_at z name ≡ Some bytes
 named_here temporary name bytes x z names =
-    ap (λ (es : List Event). file_at es name) names.record_is ∙ file_at-Renamed-to (Synced temporary ∷ names.filled) temporary name bytes (synced_here temporary bytes x names.filled names.fills)
+    ap (λ (es : List Event). file_at es name) names.record_is
+    ∙ file_at-Renamed-to (Synced temporary ∷ names.filled) temporary name bytes
+    (synced_here temporary bytes x names.filled names.fills)
 
-named_temporary : (temporary name bytes : List ℕ) (x z : List Event) → temporary ≢ name → Names temporary name bytes x z → file_at z temporary ≡ None
+named_temporary : (temporary name bytes : List ℕ) (x z : List Event) → temporary ≢ name
+    → Names temporary name bytes x z → file_at z temporary ≡ None
 named_temporary temporary name bytes x z apart names =
-    ap (λ (es : List Event). file_at es temporary) names.record_is ∙ file_at-Renamed-from (Synced temporary ∷ names.filled) temporary name bytes apart (synced_here temporary bytes x names.filled names.fills)
+    ap (λ (es : List Event). file_at es temporary) names.record_is
+    ∙ file_at-Renamed-from (Synced temporary ∷ names.filled) temporary name bytes apart
+    (synced_here temporary bytes x names.filled names.fills)
 
-named_other : (temporary name bytes q : List ℕ) (x z : List Event) → q ≢ name → q ≢ temporary → Names temporary name bytes x z → file_at z q ≡ file_at x q
+named_other : (temporary name bytes q : List ℕ) (x z : List Event) → q ≢ name → q ≢ temporary
+    → Names temporary name bytes x z → file_at z q ≡ file_at x q
 named_other temporary name bytes q x z apart apart_too names =
-    ap (λ (es : List Event). file_at es q) names.record_is ∙ file_at-Renamed-other (Synced temporary ∷ names.filled) temporary name q apart_too apart
+    ap (λ (es : List Event). file_at es q) names.record_is ∙ file_at-Renamed-other (Synced temporary ∷ names.filled)
+    temporary name q apart_too apart
     ∙ file_at-Synced names.filled temporary q ∙ filled_other temporary bytes q x names.filled names.fills apart_too
 
 -- a settled output is written
 pub writes-from_settles : (name bytes : List ℕ) (x y : List Event) → Settles name bytes x y → WritesFile name bytes x y
 writes-from_settles name bytes x y settles =
-    let at : (q : List ℕ) → file_at y q ≡ file_at settles.named q = λ q. ap (λ (es : List Event). file_at es q) settles.record_is ∙ file_at-NamesSynced settles.named q in
+    let at : (q : List ℕ) → file_at y q ≡ file_at settles.named q = λ q. ap (λ (es : List Event). file_at es q)
+    settles.record_is ∙ file_at-NamesSynced settles.named q in
     let temporary = temporary_name name in
     record {
       output = at name ∙ named_here temporary name bytes x settles.named settles.names;
-      temporary = at temporary ∙ named_temporary temporary name bytes x settles.named (temporary_apart name) settles.names;
-      others = λ q apart apart_too. at q ∙ named_other temporary name bytes q x settles.named apart apart_too settles.names;
-      at_a_stop = λ nothing. stop_settled temporary name bytes x (name_apart name) nothing y settles.named settles.names settles.record_is;
-      stays = λ nothing. settled_stays temporary name bytes x (name_apart name) nothing y settles.named settles.names settles.record_is;
+      temporary = at temporary ∙ named_temporary temporary name bytes x settles.named (temporary_apart name)
+          settles.names;
+      others = λ q apart apart_too. at q ∙ named_other temporary name bytes q x settles.named apart apart_too
+          settles.names;
+      at_a_stop = λ nothing. stop_settled temporary name bytes x (name_apart name) nothing y settles.named
+          settles.names settles.record_is;
+      stays = λ nothing. settled_stays temporary name bytes x (name_apart name) nothing y settles.named settles.names
+          settles.record_is;
     }
 
-may_write-from_may_name : (name bytes : List ℕ) (x y : List Event) → MayName (temporary_name name) name bytes x y → MayWriteFile name bytes x y
+may_write-from_may_name : (name bytes : List ℕ) (x y : List Event) → MayName (temporary_name name) name bytes x y
+    → MayWriteFile name bytes x y
 may_write-from_may_name name bytes x y (Began begun) = record {
   output = inl (begun_other (temporary_name name) name x y begun (λ same. temporary_apart name (sym same)));
   others = λ q apart apart_too. begun_other (temporary_name name) q x y begun apart_too;
@@ -69,11 +93,13 @@ may_write-from_may_name name bytes x y (Began begun) = record {
 }
 may_write-from_may_name name bytes x y (Synchronized filled fills is) =
     let at : (q : List ℕ) → q ≢ temporary_name name → file_at y q ≡ file_at x q
-    = λ q apart. ap (λ (es : List Event). file_at es q) is ∙ file_at-Synced filled (temporary_name name) q ∙ filled_other (temporary_name name) bytes q x filled fills apart in
+    = λ q apart. ap (λ (es : List Event). file_at es q) is ∙ file_at-Synced filled (temporary_name name) q
+    ∙ filled_other (temporary_name name) bytes q x filled fills apart in
     record {
       output = inl (at name (λ same. temporary_apart name (sym same)));
       others = λ q apart apart_too. at q apart_too;
-      at_a_stop = λ nothing. stop_may_name (temporary_name name) name bytes x (name_apart name) nothing y (Synchronized filled fills is);
+      at_a_stop = λ nothing. stop_may_name (temporary_name name) name bytes x (name_apart name) nothing y
+          (Synchronized filled fills is);
     }
 may_write-from_may_name name bytes x y (Named names) = record {
   output = inr (named_here (temporary_name name) name bytes x y names);
@@ -86,7 +112,8 @@ either_way e (inl f) = inl (e ∙ f)
 either_way e (inr f) = inr (e ∙ f)
 
 -- whatever was done, the output is as it was or whole
-pub may_write-from_may_settle : (name bytes : List ℕ) (x y : List Event) → MaySettle name bytes x y → MayWriteFile name bytes x y
+pub may_write-from_may_settle : (name bytes : List ℕ) (x y : List Event) → MaySettle name bytes x y
+    → MayWriteFile name bytes x y
 may_write-from_may_settle name bytes x y (Left may) = may_write-from_may_name name bytes x y may
 may_write-from_may_settle name bytes x y (Cleared left may is) =
     let before = may_write-from_may_name name bytes x left may in

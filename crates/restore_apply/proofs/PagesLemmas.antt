@@ -77,7 +77,9 @@ lock_none size last = elim (cases_lt last (lock_page size)) [
 same_test : (lock next : ℕ) → suc next ≢ lock → ltb lock (suc next) ≡ ltb lock (suc (suc next))
 same_test lock next other = elim (cases_lt lock (suc next)) [
   | inl past ↦ lt-ltb lock (suc next) past ∙ sym (lt-ltb lock (suc (suc next)) (omega (arith, past)))
-  | inr early ↦ le-ltb lock (suc next) early ∙ sym (le-ltb lock (suc (suc next)) (let apart : lock ≢ suc next = λ e. other (sym e) in omega (arith, early, apart)))
+  | inr early ↦ le-ltb lock (suc next) early
+      ∙ sym (le-ltb lock (suc (suc next))
+      (let apart : lock ≢ suc next = λ e. other (sym e) in omega (arith, early, apart)))
 ]
 
 -- and where the number behind isn't the lock page's, nothing changes

@@ -112,7 +112,8 @@ module _ (told : Told) (first now next : Cursors) (last number : ℕ) (put page 
   goes_now events is = gives events is before.given (before.goes events is)
 
   past_now : (p : ℕ) → next.last < p → page_in given_now p ≡ None
-  past_now p high = other_page p (λ e. omega (arith, e, high, there)) ∙ before.past p (omega (arith, high, there, above))
+  past_now p high = other_page p (λ e. omega (arith, e, high, there))
+      ∙ before.past p (omega (arith, high, there, above))
 
   -- it is put, behind the lock page where that comes first
   put_more : number ≤ first.commit → number ≢ lock_page first.size
@@ -196,7 +197,8 @@ put_end told first now last put before ended events is =
     let given = before.given in
     let size = first.size in
     let made = state_of_read files now given (ended events is given (before.goes events is)) in
-    let gap = output-gap size last first.commit given before.within (λ p more low other. before.none p more low other) in
+    let gap = output-gap size last first.commit given before.within
+    (λ p more low other. before.none p more low other) in
     let one_more : first.commit + 1 ≡ suc first.commit = omega arith in
     let bytes : output_to size given first.commit ≡ put ++ lock_between size last (first.commit + 1) =
     gap ∙ ap (λ (n : ℕ). output_to size given last ++ lock_between size last n) (sym one_more)

@@ -1,5 +1,6 @@
 -- Where a replica's files tell the truth, the files of a chain to a transaction make its recorded state.
-use Rattle.std.proofs.Common.{◌≡◌, ℕ, ◌<◌, ◌≤◌, List, [], ◌∷◌, map, Option, Some, None, refl, sym, ap, subst, ◌∙◌, inl, inr, arith}
+use Rattle.std.proofs.Common.{◌≡◌, ℕ, ◌<◌, ◌≤◌, List, [], ◌∷◌, map, Option, Some, None, refl, sym, ap, subst, ◌∙◌, inl}
+use Rattle.std.proofs.Common.{inr, arith}
 use Rattle.std.specs.Prelude.{unwrap_or, IsSome}
 use Rattle.std.specs.List.{AllByRecursion, All, Contains}
 use Rattle.std.proofs.lemmas.List.{get_or-map, length-map}
@@ -54,18 +55,25 @@ record HasFile (files : Files) (history : History) (log : SyncLog) (name : FileN
   own : IsFaithfulFile history log name.min name.max (bytes_under files (path_of name))
   same : own.change ≡ change_of file
 
-module _ (files : Files) (history : History) (log : SyncLog) (faithful : IsFaithful files history log) (names : List FileName)
+module _ (files : Files) (history : History) (log : SyncLog) (faithful : IsFaithful files history log)
+    (names : List FileName)
     (listed : AreListed files names) where
   has_file : (name : FileName) → Contains names name → (file : LtxFile) × HasFile files history log name file
   unfolding file_made
   has_file name has =
       let path = path_of name in
       let there = ((listed.each path).0 (path_in names name has)).1 in
-      let own = faithful.each name (bytes_under files path) (valid_in names name listed.valid has) (named_there (get files path) there) in
+      let own = faithful.each name (bytes_under files path) (valid_in names name listed.valid has)
+      (named_there (get files path) there) in
       let same = same_change (bytes_under files path) own.header own.change own.file.file in (
         file_made own.header own.change,
         record {
-          is = record { file = subst (IsLtxFile (bytes_under files path) own.header) same own.file.file; from_min = own.file.from_min; to_max = own.file.to_max };
+          is = record {
+            file = subst (IsLtxFile (bytes_under files path) own.header) same own.file.file;
+            from_min =
+                own.file.from_min;
+            to_max = own.file.to_max;
+          };
           own = own;
           same = same;
         },
@@ -96,18 +104,30 @@ module _ (files : Files) (history : History) (log : SyncLog) (faithful : IsFaith
       record {
         file = found.0;
         has = found.1;
-        fits = subst (IsApplicable before) found.1.same (subst (λ (s : State). IsApplicable s found.1.own.change) state turns.fits);
-        after = turns.after ∙ ap (λ (s : State). Some (apply s found.1.own.change)) state ∙ ap (λ (c : Change). Some (apply before c)) found.1.same;
+        fits = subst (IsApplicable before) found.1.same
+            (subst (λ (s : State). IsApplicable s found.1.own.change) state turns.fits);
+        after = turns.after ∙ ap (λ (s : State). Some (apply s found.1.own.change)) state
+            ∙ ap (λ (c : Change). Some (apply before c)) found.1.same;
       }
 
-  later_made : (chain : List FileName) (from t size : ℕ) (before : State) → 0 < from → LeadsTo names from chain t → AllByRecursion (λ name. 1 < name.min) chain
+  later_made : (chain : List FileName) (from t size : ℕ) (before : State) → 0 < from → LeadsTo names from chain t
+      → AllByRecursion (λ name. 1 < name.min) chain
       → recorded_state history log from ≡ Some before → before.page_size ≡ Some size → Made chain t size before
   later_made [] from t size before positive leads later recorded sized =
-      record { made = []; are = tt; sized = tt; state = before; makes = refl; recorded = ap (recorded_state history log) (sym leads) ∙ recorded }
+      record {
+        made = [];
+        are = tt;
+        sized = tt;
+        state = before;
+        makes = refl;
+        recorded =
+            ap (recorded_state history log) (sym leads) ∙ recorded;
+      }
   later_made (name ∷ chain) from t size before positive (there, next, leads) (late, later) recorded sized =
       let one = applied name from before there (inr (late, next.begins, omega (arith, next.goes_on))) recorded in
       let its : size ≡ one.file.header.size = one.fits.same_size size sized in
-      let rest = later_made chain name.max t size (apply before (change_of one.file)) (omega (arith, next.goes_on)) leads later one.after
+      let rest = later_made chain name.max t size (apply before (change_of one.file)) (omega (arith, next.goes_on))
+      leads later one.after
       (ap (λ (n : ℕ). Some n) (sym its)) in
       record {
         made = one.file ∷ rest.made;
@@ -120,13 +140,15 @@ module _ (files : Files) (history : History) (log : SyncLog) (faithful : IsFaith
 
   -- The files of a chain to t make the recorded state of t, where only the first of them begins with the first
   -- transaction.
-  pub makes_recorded : (t : ℕ) (chain : List FileName) → 1 ≤ t → IsChain names t chain → BeginsOnce chain → MakesRecorded files history log t chain
+  pub makes_recorded : (t : ℕ) (chain : List FileName) → 1 ≤ t → IsChain names t chain → BeginsOnce chain
+      → MakesRecorded files history log t chain
   makes_recorded t [] positive leads once = absurd (omega (arith, positive, leads))
   makes_recorded t (first ∷ rest) positive (there, next, leads) once =
       let own = valid_in names first listed.valid there in
       let begins : first.min ≡ 1 = omega (arith, next.begins, own.from_first) in
       let one = applied first 0 empty_state there (inl (begins, refl)) refl in
-      let made = later_made rest first.max t one.file.header.size (apply empty_state (change_of one.file)) (omega (arith, next.goes_on)) leads once one.after refl in
+      let made = later_made rest first.max t one.file.header.size (apply empty_state (change_of one.file))
+      (omega (arith, next.goes_on)) leads once one.after refl in
       record {
         state = made.state;
         makes = record {

@@ -1,5 +1,6 @@
 -- The bytes of an output, by the pages that were given for it.
-use Rattle.std.specs.Prelude.{ℕ, zero, suc, Bool, ◌==◌, ◌&&◌, not, nat_le, nat_lt, if◌then◌else◌, List, [], ◌++◌, replicate, unwrap_or}
+use Rattle.std.specs.Prelude.{ℕ, zero, suc, Bool, ◌==◌, ◌&&◌, not, nat_le, nat_lt, if◌then◌else◌, List, [], ◌++◌}
+use Rattle.std.specs.Prelude.{replicate, unwrap_or}
 use Rattle.ls_base.specs.PageSize.{lock_page}
 use Rattle.page_cursors.specs.Blocks.{Blocks, page_in}
 

@@ -66,7 +66,8 @@ pub record Settles (name bytes : List ℕ) (old new : List Event) : Type 0 where
 -- what may have been done of that; where it failed, the temporary file may have been removed
 pub data MaySettle (name bytes : List ℕ) (old new : List Event) : Type 0 where
   Left : MayName (temporary_name name) name bytes old new → MaySettle name bytes old new
-  Cleared : (left : List Event) → MayName (temporary_name name) name bytes old left → new ≡ Removed (temporary_name name) ∷ left
+  Cleared : (left : List Event) → MayName (temporary_name name) name bytes old left
+      → new ≡ Removed (temporary_name name) ∷ left
       → MaySettle name bytes old new
 
 -- The file has these bytes, the temporary file is absent, and each other file is as it was. Where a crash left

@@ -1,6 +1,7 @@
 //! What the files of a plan make, whatever the files are.
 
-ghost use Rattle.restore_apply.specs.RestoreLaws.{FaithfulChainsMakeRecorded, OneState, ReadFilesAreSound, MadeStatesAreWhole, MissingPagesAreStored};
+ghost use Rattle.restore_apply.specs.RestoreLaws.{FaithfulChainsMakeRecorded, OneState, ReadFilesAreSound};
+ghost use Rattle.restore_apply.specs.RestoreLaws.{MadeStatesAreWhole, MissingPagesAreStored};
 
 /// Where a replica's files tell the truth, a chain of which only the first file begins with the first transaction
 /// makes the recorded state. Does nothing: its clause holds of all files.

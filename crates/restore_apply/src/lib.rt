@@ -13,6 +13,8 @@
 mod applying;
 mod gathered;
 mod law;
+#[cfg(test)]
+mod lock_tests;
 mod output;
 mod pages;
 mod restored;

@@ -9,7 +9,8 @@ ghost use Rattle.page_cursors.specs.Cursors.{AreReady, HaveGiven, plan_of};
 ghost use Rattle.page_cursors.specs.Costs.{AreCounted, Takes, left_of_all, nothing};
 ghost use Rattle.restore_apply.specs.declared.restored.RestoreFault.TheVariants as fault;
 ghost use Rattle.restore_apply.specs.Restoring.{ExplainsRestore};
-ghost use Rattle.restore_apply.specs.Writing.{RestsOn, FillsPages, NamesPages, LeavesPages, WritesPages, Clears, fault_of};
+ghost use Rattle.restore_apply.specs.Writing.{RestsOn, FillsPages, NamesPages, LeavesPages, WritesPages, Clears};
+ghost use Rattle.restore_apply.specs.Writing.{fault_of};
 ghost use Rattle.restore_apply.specs.Staging.{MayBegin, temporary_name};
 ghost use Rattle.crash_disk.specs.GoesOn.{GoesOn};
 

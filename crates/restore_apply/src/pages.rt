@@ -19,7 +19,7 @@ use page_cursors::Cursors;
 use std::sync::ledger::Ledger;
 
 /// Gathers zeros for the lock page where it lies between the two numbers: no file has that page.
-fn put_lock_page<D: Disk>(
+pub fn put_lock_page<D: Disk>(
     disk: &mut D,
     name: &str,
     size: PageSize,

@@ -21,9 +21,11 @@ returns-clause-ok g c =
     let now = g.S.Disk.told c.page.new.store in
     on_ok_weaker c.page.result
     (λ paged begun old some above last gives.
-    copies_page begun mid now old c.args.cursors.now c.args.draft.now c.page.new.self c.args.number some above last gives
+    copies_page begun mid now old c.args.cursors.now c.args.draft.now c.page.new.self c.args.number some above last
+    gives
     (subst (λ (h : LtxHeader). IsStored h c.args.number) (sym c.requires.header)
     (c.is_stored.ensures.0 c.if-not-is_stored.false))
-    (subst (λ (bs : List ℕ). IsDrafting begun now c.page.new.self (insert some.pages c.args.number bs)) c.deref.ensures.value
+    (subst (λ (bs : List ℕ). IsDrafting begun now c.page.new.self (insert some.pages c.args.number bs))
+    c.deref.ensures.value
     (paged begun some.pages some.is.drafting)) c.page.ensures.same)
     c.page.ensures.ok

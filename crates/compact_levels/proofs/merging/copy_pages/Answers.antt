@@ -36,7 +36,8 @@ loop-number-preserved g c =
       plan = same_plan_then c.args.cursors.now loop.cursors new loop.invariant.plan c.in_ok-number.ensures.same;
       being_put = c.in_ok-copy_page.ensures.being_put;
       rises = omega (arith, c.in_ok-copy_page.ensures.last, rises.1);
-      same = same_file_then c.args.draft.now loop.draft c.copy_page.new.draft loop.invariant.same c.copy_page.ensures.same;
+      same = same_file_then c.args.draft.now loop.draft c.copy_page.new.draft loop.invariant.same
+          c.copy_page.ensures.same;
       copying = λ begun begins. c.in_ok-copy_page.ensures.ok begun loop.cursors
           (still_some begun (g.S.Disk.told loop.store) mid loop.cursors loop.draft c.next_of.ensures.unchanged
           (loop.invariant.copying begun begins)) rises.0 rises.1
@@ -64,7 +65,9 @@ returns-clause-ok g c = λ begun begins.
     let loop = c.loop-number in
     let old = g.S.Disk.told loop.store in
     let none = not_some c.in_ok-number.field-0 c.in_default.not-Some in
-    subst (λ (t : Told). HasCopied begun t c.args.header.now.min (plan_of c.args.cursors.now) c.args.cursors.now.size loop.draft)
+    subst (λ (t : Told). HasCopied begun t c.args.header.now.min (plan_of c.args.cursors.now) c.args.cursors.now.size
+    loop.draft)
     (sym c.next_of.ensures.unchanged)
-    (has_copied begun old c.args.cursors.now loop.cursors loop.draft c.args.header.now.min (loop.invariant.copying begun begins)
+    (has_copied begun old c.args.cursors.now loop.cursors loop.draft c.args.header.now.min
+    (loop.invariant.copying begun begins)
     loop.invariant.plan (from_none c.in_ok-number.field-0 _ c.in_ok-number.ensures.ended none))

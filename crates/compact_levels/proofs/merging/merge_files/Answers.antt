@@ -11,7 +11,8 @@ use Rattle.replica_store.specs.Putting.{StillKeepsOthers}
 use Rattle.compact_levels.specs.Drafting.{header_of, HasPutDraft, LeavesDraft, WithDraft}
 use Rattle.compact_levels.specs.Merged.{LeavesPlan}
 use Rattle.compact_levels.specs.MergeCause.{fault_of}
-use Rattle.compact_levels.proofs.MergeFilesLemmas.{begins_copying, copied_named, given_up_copying, has_merged, header_sized}
+use Rattle.compact_levels.proofs.MergeFilesLemmas.{begins_copying, copied_named, given_up_copying, has_merged}
+use Rattle.compact_levels.proofs.MergeFilesLemmas.{header_sized}
 use Rattle.compact_levels.proofs.MergeFilesLemmas.{if_err_weaker, not_finished, not_opened, stops_named}
 use Rattle.compact_levels.proofs.merging.merge_files.Goals as goal
 
@@ -25,7 +26,8 @@ returns-in_err-cursors-clause-err g c =
 
 pub copy_pages-requires-clause-sized : goal.copy_pages-requires-clause-sized
 copy_pages-requires-clause-sized g c =
-    header_sized c.in_ok-cursors.cursors c.args.name.now c.merged_header-header.result c.merged_header-header.ensures.merges
+    header_sized c.in_ok-cursors.cursors c.args.name.now c.merged_header-header.result
+    c.merged_header-header.ensures.merges
     c.in_ok-cursors.ensures.ready.shape.sized
 
 pub returns-in-Err-clause-err : goal.returns-in-Err-clause-err
@@ -39,11 +41,13 @@ returns-in-Err-clause-err g c =
     let draft = c.in_ok-draft.draft in
     let name = c.args.name.now in
     let path = path_of name in
-    let begins = begins_copying begun opened drafted cursors draft name c.begin.ensures.unchanged c.in_ok-cursors.ensures.begun
+    let begins = begins_copying begun opened drafted cursors draft name c.begin.ensures.unchanged
+    c.in_ok-cursors.ensures.begun
     c.in_ok-draft.ensures.ok c.in_ok-draft.ensures.named in
     let min = ap (λ (k : LtxHeader). k.min) c.merged_header-header.ensures.merges.is in
     given_up_copying begun copied now name.min c.args.plan.now path c.in-Err.fault
-    (stops_named begun copied c.merged_header-header.result.min name.min (plan_of cursors) c.args.plan.now draft.put path
+    (stops_named begun copied c.merged_header-header.result.min name.min (plan_of cursors) c.args.plan.now draft.put
+    path
     c.in-Err.fault min c.in_ok-cursors.ensures.plan c.in_ok-draft.ensures.named (c.in-Err.ensures.err begun begins))
     (subst (λ (p : List ℕ). StillKeepsOthers p copied now)
     (c.copy_pages.ensures.same.put ∙ c.in_ok-draft.ensures.named) c.abandon.ensures.kept)
@@ -61,7 +65,8 @@ returns-clause-ok g c =
     let name = c.args.name.now in
     let h = c.merged_header-header.result in
     let merges = c.merged_header-header.ensures.merges in
-    let begins = begins_copying begun opened drafted cursors draft name c.begin.ensures.unchanged c.in_ok-cursors.ensures.begun
+    let begins = begins_copying begun opened drafted cursors draft name c.begin.ensures.unchanged
+    c.in_ok-cursors.ensures.begun
     c.in_ok-draft.ensures.ok c.in_ok-draft.ensures.named in
     let copied = copied_named begun copied_at h.min name.min (plan_of cursors) c.args.plan.now cursors.size whole
     (ap (λ (k : LtxHeader). k.min) merges.is) c.in_ok-cursors.ensures.plan (c.in_default.ensures.ok begun begins) in
@@ -87,12 +92,14 @@ returns-clause-err g c =
     let name = c.args.name.now in
     let h = c.merged_header-header.result in
     let merges = c.merged_header-header.ensures.merges in
-    let begins = begins_copying begun opened drafted cursors draft name c.begin.ensures.unchanged c.in_ok-cursors.ensures.begun
+    let begins = begins_copying begun opened drafted cursors draft name c.begin.ensures.unchanged
+    c.in_ok-cursors.ensures.begun
     c.in_ok-draft.ensures.ok c.in_ok-draft.ensures.named in
     let copied = copied_named begun copied_at h.min name.min (plan_of cursors) c.args.plan.now cursors.size whole
     (ap (λ (k : LtxHeader). k.min) merges.is) c.in_ok-cursors.ensures.plan (c.in_default.ensures.ok begun begins) in
     if_err_weaker c.finish.result
-    (λ fault. WithDraft whole copied_at (λ begun pages. GoesOn begun now (LeavesDraft whole.put (header_of whole) pages fault)))
+    (λ fault. WithDraft whole copied_at
+    (λ begun pages. GoesOn begun now (LeavesDraft whole.put (header_of whole) pages fault)))
     (λ fault. GoesOn begun now (LeavesPlan name.min c.args.plan.now (path_of name) fault))
     (λ fault put. not_finished begun copied_at now c.args.plan.now name cursors h whole c.in_ok-cursors.ensures.begun
     c.in_ok-cursors.ensures.plan merges c.requires.spans

@@ -22,7 +22,8 @@ returns-clause-merges c =
     record {
       before = take at cursors;
       last = last;
-      ends = split_last cursors at last (omega (arith, c.len.ensures, c.args.cursors.now.cursors.ok.0, c.requires.some)) there;
+      ends = split_last cursors at last
+          (omega (arith, c.len.ensures, c.args.cursors.now.cursors.ok.0, c.requires.some)) there;
       is = ap (λ (h : LtxHeader). record h { min = c.args.name.now.min; max = c.args.name.now.max; index = true })
           c.header-last.ensures.value;
     }

@@ -4,7 +4,8 @@ use Rattle.std.proofs.lemmas.List.{take_all}
 use Rattle.std.proofs.lemmas.List.{length-drop}
 use Rattle.replica_store.specs.declared.file_name.FileName.{FileName}
 use Rattle.compact_levels.specs.Run.{IsGapless}
-use Rattle.compact_levels.proofs.RunFileLemmas.{behind_it, files_at, found_at, none_begins, not_missing, one_read, read_at}
+use Rattle.compact_levels.proofs.RunFileLemmas.{behind_it, files_at, found_at, none_begins, not_missing, one_read}
+use Rattle.compact_levels.proofs.RunFileLemmas.{read_at}
 use Rattle.compact_levels.proofs.run_files.pile_from.Goals as goal
 
 pub loop-at-preserved : goal.loop-at-preserved
@@ -25,14 +26,16 @@ returns-then-begins_with c = λ before first rest behind to split pile ends.
     let here = c.index-names-at.result in
     let there : slice_get names at ≡ Some here = read_at names at here low c.index-names-at.is in
     let again = c.index-names-at-then-begins_with.result in
-    let there_again : slice_get names at ≡ Some again = read_at names at again low c.index-names-at-then-begins_with.is in
+    let there_again : slice_get names at ≡ Some again = read_at names at again low
+    c.index-names-at-then-begins_with.is in
     let found = found_at level c.args.min names before first rest behind to split pile at here there
     (c.begins_with.ensures.0 c.if-begins_with.true) c.loop-at.invariant in
     let same : again ≡ first = one_read names at again here there_again there ∙ found.1 in
     let whole = take_all (length names - (at + 1)) (drop (at + 1) names) (omega (arith, length-drop (at + 1) names)) in
     let count = c.going_on-count.ensures.count rest behind to
     (whole ∙ behind_it level c.args.min names before first rest behind to split pile at found.0)
-    (subst (λ (n : FileName). IsGapless level n.max rest to) (sym same ∙ c.index-names-at-then-begins_with.is) pile.gapless) ends in
+    (subst (λ (n : FileName). IsGapless level n.max rest to) (sym same ∙ c.index-names-at-then-begins_with.is)
+    pile.gapless) ends in
     let all : at + 1 + c.going_on-count.result - at ≡ 1 + c.going_on-count.result = omega arith in
     ap (λ (k : ℕ). take k (drop at names)) all
     ∙ files_at level c.args.min names before first rest behind to split pile at c.going_on-count.result found.0 count

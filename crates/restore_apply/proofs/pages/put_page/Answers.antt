@@ -18,7 +18,8 @@ pub returns-in_err-put-clause-err : goal.returns-in_err-put-clause-err
 returns-in_err-put-clause-err g c =
     let name = c.args.name.now in
     err_leaves c.from_residual-in_err-put.result _
-    (goes_on-then (g.D.Disk.told c.args.disk.now) (g.D.Disk.told c.put_lock_page.new.disk) (g.D.Disk.told c.put.new.disk)
+    (goes_on-then (g.D.Disk.told c.args.disk.now) (g.D.Disk.told c.put_lock_page.new.disk)
+    (g.D.Disk.told c.put.new.disk)
     _ (OnlyAppends name) (OnlyAppends name) c.in_ok-put_lock_page.ensures.ok c.in_err-put.ensures.err
     (λ x y z first second. only_appends-then name x y z (only_appends name _ _ _ x y first) second))
 
@@ -41,7 +42,8 @@ returns-then-number-lock_page-clause-ok g c =
     ∙ ap (λ (bytes : List ℕ). lock_between size c.args.last number ++ bytes) page
     ∙ sym (puts_all size c.args.cursors.now.commit c.args.last number c.lock_page.result items
     c.if-number-cursors.true c.if-number-lock_page.true c.lock_page.ensures) in
-    goes_on-then old mid new _ _ (AppendsGathered name before (bytes_put size c.args.cursors.now.commit c.args.last number
+    goes_on-then old mid new _ _ (AppendsGathered name before
+    (bytes_put size c.args.cursors.now.commit c.args.last number
     items) c.put.new.self) c.in_ok-put_lock_page.ensures.ok c.in_ok-put.ensures.ok
     (λ x y z first second. subst (λ (bytes : List ℕ). AppendsGathered name before bytes c.put.new.self x z) all
     (gathers-then name before _ _ _ _ x y z first second))

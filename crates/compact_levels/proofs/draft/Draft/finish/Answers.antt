@@ -11,5 +11,6 @@ returns-clause-ok g c = λ begun pages is.
     let now = g.S.Disk.told c.finish.new.store in
     let all = is.all ∙ ap (λ (bs : List ℕ). is.written ++ bs) (sym c.deref.ensures.value) in
     let ended = c.in_default.ensures.ok begun pages is.written is.has is.put all in
-    let put = subst (λ (p : List ℕ). AfterPutting p mid now (HasPut p)) c.put_end.ensures.same c.in_ok-finish.ensures.ok in
+    let put = subst (λ (p : List ℕ). AfterPutting p mid now (HasPut p)) c.put_end.ensures.same
+    c.in_ok-finish.ensures.ok in
     has_put_draft path (header_of c.args.self) pages begun now ended.0 ended.1 (put begun ended.0 ended.2)
