@@ -1,0 +1,12 @@
+pub mod AddingLemmas
+pub mod StandingLemmas
+pub mod ListedLemmas
+pub mod MomentLemmas
+pub mod MergedLemmas
+pub mod FaithLemmas
+pub mod DropLemmas
+pub mod DropFaithLemmas
+pub mod LeftLemmas
+pub mod TurnLemmas
+pub mod TurnsLemmas
+pub mod MaintainLemmas
