@@ -1,0 +1,64 @@
+-- What a round asks of the live database, and what it learns.
+use Rattle.std.specs.Prelude.{◌≡◌, Bool, true, false, Option, Some, None, Result, Ok, Err, IsOk, OnErr, ◌⊎◌}
+use Rattle.ls_base.specs.declared.place.Place.{Place}
+use Rattle.ls_base.specs.declared.place.Place.TheVariants.{Wal, Rest}
+use Rattle.live_gate.specs.LiveRecord.{Database, LiveRecord}
+use Rattle.live_gate.specs.Legal.{IsLegal}
+use Rattle.live_gate.specs.Step.{IsWriterStep, IsStepButHold}
+use Rattle.round_line.specs.declared.round.Round.{Round}
+use Rattle.round_line.specs.declared.round.Synced.{Synced}
+use Rattle.wal_follow.specs.declared.fault.FollowFault.TheVariants.{Header, SizesDiffer, WalTooLong, TooLarge}
+use Rattle.wal_follow.specs.declared.fault.FollowFault.TheVariants.{GateBroken, Live, Memory}
+use Rattle.wal_follow.specs.declared.following.Following.{Following}
+use Rattle.wal_follow.specs.Following.{Fits}
+use Rattle.replica_sync.specs.declared.answer.SyncFault.TheVariants as fault
+use Rattle.replica_sync.specs.LiveSide.{Syncs}
+use Rattle.replica_round.specs.declared.stop.RoundStop.{RoundStop}
+use Rattle.replica_round.specs.declared.stop.RoundStop.TheVariants as stop
+
+-- The gate is held at the end of a place in the log. It is held at no mark where the place is at rest, and where a pass
+-- emptied the log there.
+abbrev pub IsHeldAt : Bool → Option Place → Database → Type 0
+IsHeldAt true place d = d.held ≡ Some 0
+IsHeldAt false (Some (Wal a b end s0 s1)) d = d.held ≡ Some end
+IsHeldAt false (Some (Rest sum)) d = d.held ≡ Some 0
+IsHeldAt false None d = Unit {0}
+
+-- The sync of the round was answered Ok and showed this, and behind it no more than the hold moved.
+pub record HasSyncedLive (f after : Following) (synced : Synced) (old new : LiveRecord) : Type 0 where
+  pub mid : LiveRecord
+  pub syncs : Syncs f after (Ok synced) old mid
+  pub on : IsStepButHold mid.database new.database
+
+-- What the live database showed, for each answer.
+abbrev pub ShowsRound : Following → Following → Result Round RoundStop → LiveRecord → LiveRecord → Type 0
+ShowsRound f after (Ok round) old new = HasSyncedLive f after round.sync old new
+ShowsRound f after (Err (stop.Damaged name damage)) old new = new ≡ old
+ShowsRound f after (Err stop.TxidSpent) old new = Syncs f after (Err fault.TxidSpent) old new
+ShowsRound f after (Err (stop.Store cause)) old new = (new ≡ old) ⊎ Syncs f after (Err (fault.Store cause)) old new
+ShowsRound f after (Err stop.Memory) old new = (new ≡ old) ⊎ Syncs f after (Err fault.Memory) old new
+ShowsRound f after (Err (stop.Follow (Live cause))) old new =
+    Syncs f after (Err (fault.Follow (Live cause))) old new
+    ⊎ ((synced : Synced) × HasSyncedLive f after synced old new)
+ShowsRound f after (Err (stop.Follow (Header cause))) old new =
+    Syncs f after (Err (fault.Follow (Header cause))) old new
+ShowsRound f after (Err (stop.Follow (SizesDiffer db wal))) old new =
+    Syncs f after (Err (fault.Follow (SizesDiffer db wal))) old new
+ShowsRound f after (Err (stop.Follow (WalTooLong n))) old new =
+    Syncs f after (Err (fault.Follow (WalTooLong n))) old new
+ShowsRound f after (Err (stop.Follow (TooLarge n))) old new =
+    Syncs f after (Err (fault.Follow (TooLarge n))) old new
+ShowsRound f after (Err (stop.Follow (GateBroken broken))) old new =
+    Syncs f after (Err (fault.Follow (GateBroken broken))) old new
+ShowsRound f after (Err (stop.Follow Memory)) old new = Syncs f after (Err (fault.Follow Memory)) old new
+
+-- What a round does to what a live database tells. The two followers are those before and after it.
+pub record Rounds (f after : Following) (result : Result Round RoundStop) (old new : LiveRecord) : Type 0 where
+  pub step : IsStepButHold old.database new.database
+  pub legal : IsLegal new.database
+  pub awake : IsOk result → new.database.stopped ≡ false
+  pub fits : new.database.stopped ≡ false → Fits after new.database
+  pub hold : IsOk result → new.database.chances ≡ 0 → IsHeldAt after.passed after.place new.database
+  -- a refusal leaves the hold
+  pub err : OnErr result (IsWriterStep old.database new.database)
+  pub shows : ShowsRound f after result old new

@@ -1,0 +1,65 @@
+//! Why a round was refused.
+
+ghost use Rattle.std.specs.Prelude.{◌≡◌};
+ghost use Rattle.replica_round.specs.Stop.{stop_of_files, stop_of_sync, stop_of_hold};
+
+use crash_disk::DiskFault;
+use live_gate::LiveFault;
+use replica_store::{Damage, FileName, StoreError};
+use replica_sync::SyncFault;
+use thiserror::Error;
+use wal_follow::FollowFault;
+
+/// Why a round was refused.
+#[derive(Clone, Copy, Debug, PartialEq, Eq, Error)]
+pub enum RoundStop {
+    /// The live database can't be followed, or failed. Its count of faults has then risen, or stands at its last
+    /// value.
+    #[error(transparent)]
+    Follow(FollowFault),
+    /// A file is to be stored, and no transaction number is left for it.
+    #[error("no transaction number is left")]
+    TxidSpent,
+    /// The replica's disk failed. Its count of faults has risen, or stands at its last value.
+    #[error("the replica's disk failed")]
+    Store(DiskFault),
+    /// The file of this name is the first in list order whose header is damaged.
+    #[error("{1}")]
+    Damaged(FileName, Damage),
+    /// There was no memory.
+    #[error("out of memory")]
+    Memory,
+}
+
+impl From<StoreError> for RoundStop {
+    ghost from_gives = { λ error e. e ≡ stop_of_files error };
+
+    fn from(error: StoreError) -> RoundStop {
+        match error {
+            StoreError::Store(fault) => RoundStop::Store(fault),
+            StoreError::Damaged(name, damage) => RoundStop::Damaged(name, damage),
+            StoreError::Memory => RoundStop::Memory,
+        }
+    }
+}
+
+impl From<SyncFault> for RoundStop {
+    ghost from_gives = { λ fault e. e ≡ stop_of_sync fault };
+
+    fn from(fault: SyncFault) -> RoundStop {
+        match fault {
+            SyncFault::Follow(fault) => RoundStop::Follow(fault),
+            SyncFault::TxidSpent => RoundStop::TxidSpent,
+            SyncFault::Store(fault) => RoundStop::Store(fault),
+            SyncFault::Memory => RoundStop::Memory,
+        }
+    }
+}
+
+impl From<LiveFault> for RoundStop {
+    ghost from_gives = { λ fault e. e ≡ stop_of_hold fault };
+
+    fn from(fault: LiveFault) -> RoundStop {
+        RoundStop::Follow(FollowFault::Live(fault))
+    }
+}
