@@ -1,0 +1,11 @@
+pub mod LaterLemmas
+pub mod ExplainLemmas
+pub mod RunLemmas
+pub mod JoinLemmas
+pub mod RoundLemmas
+pub mod BeginLemmas
+pub mod TruthLemmas
+pub mod ExactLemmas
+pub mod EndLemmas
+pub mod LawLemmas
+pub mod AttachLemmas

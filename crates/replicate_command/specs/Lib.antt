@@ -1,0 +1,11 @@
+pub mod Asked
+pub mod Seen
+pub mod Later
+pub mod Stop
+pub mod Answers
+pub mod Promise
+pub mod Exact
+pub mod Ends
+pub mod Laws
+pub mod Stage
+pub mod Attaching

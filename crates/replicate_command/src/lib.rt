@@ -1,0 +1,23 @@
+//! The command `replicate`: it stores what changes in a database, in so many rounds, each with its line.
+//!
+//! To the top call it promises, of every run: where no checksum coincidence is counted and the replica tells the
+//! truth whatever a crash leaves of it, it does so at the end and wherever a stop falls; what was printed are the
+//! lines of the rounds that ended, and what they stored is retained; after Done as many rounds ended as are asked
+//! for, and the newest transaction is the state of the database at the run's start or a later one; each refusal has
+//! its cause; the gate is given up. A run's end, and each crash in it, is a fit start of the next run. Memory is
+//! taken by the rounds, not for the lines.
+//!
+//! Stands on `live_gate` and `crash_disk` for the objects, on `replica_store`, on `replica_runs` for the line that a
+//! run follows and the laws of runs, on `wal_follow` for the follower, on `replica_round` and `round_line`, and on
+//! `ls_answers`; on `ltx_format` and `replica_sync` for definitions and proofs alone.
+#![tactic(auto)]
+
+mod command;
+mod law;
+mod request;
+mod rounds;
+mod stop;
+
+pub use command::replicate;
+pub use law::{refused_at_once, replications_follow};
+pub use request::Request;
