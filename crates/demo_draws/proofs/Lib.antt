@@ -1,0 +1,5 @@
+pub mod GeneratorLemmas
+mod PageLemmas
+mod CommitLemmas
+pub mod DatabaseLemmas
+pub mod RoundLemmas

@@ -1,0 +1,4 @@
+pub mod Generator
+pub mod DrawnPage
+pub mod DrawnCommit
+pub mod DatabaseCommit
