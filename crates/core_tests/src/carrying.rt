@@ -2,9 +2,13 @@
 
 use crash_disk::{MemDisk, MemOut};
 use litestream_core::{Outcome, litestream};
+use live_gate::StillLive;
 use ls_base::Memory;
 use ls_words::Words;
 use std::alloc::Global;
+
+/// 2023-11-14T22:13:20Z in ms.
+const MOMENT: u64 = 1_700_000_000_000;
 
 /// The words of a line with one space between each two.
 fn words_of(alloc: Global, line: &str) -> Result<Words, Memory> {
@@ -18,7 +22,23 @@ fn words_of(alloc: Global, line: &str) -> Result<Words, Memory> {
     Ok(words)
 }
 
-/// What the command of the line ends with, over these disks and these outputs.
+/// What the command of the line ends with at 2023-11-14T22:13:20Z, over these disks and these outputs, beside a
+/// database file of these bytes that has no log.
+pub fn carried_out_beside(
+    alloc: Global,
+    database: &[u8],
+    line: &str,
+    store: &mut MemDisk,
+    target: &mut MemDisk,
+    out: &mut MemOut,
+    err: &mut MemOut,
+) -> Result<Outcome, Memory> {
+    let words = words_of(alloc, line)?;
+    let mut live = StillLive::new(alloc, database, &[])?;
+    Ok(litestream(alloc, &words, MOMENT, &mut live, store, target, out, err))
+}
+
+/// The same where the database file is empty.
 pub fn carried_out_telling(
     alloc: Global,
     line: &str,
@@ -27,8 +47,7 @@ pub fn carried_out_telling(
     out: &mut MemOut,
     err: &mut MemOut,
 ) -> Result<Outcome, Memory> {
-    let words = words_of(alloc, line)?;
-    Ok(litestream(alloc, &words, store, target, out, err))
+    carried_out_beside(alloc, &[], line, store, target, out, err)
 }
 
 /// The same where nobody looks at what is said.

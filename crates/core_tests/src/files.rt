@@ -178,7 +178,7 @@ pub fn disk_of(alloc: Global, replica: Replica) -> Result<MemDisk, Fail> {
 }
 
 /// A database of pages with these bytes.
-fn database(alloc: Global, fills: &[u8]) -> Result<Vec<u8>, AllocError> {
+pub fn database(alloc: Global, fills: &[u8]) -> Result<Vec<u8>, AllocError> {
     let mut bytes = Vec::new(alloc);
     let mut number = 1;
     for fill in fills {

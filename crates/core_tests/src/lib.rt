@@ -19,6 +19,8 @@ mod faults;
 #[cfg(test)]
 mod files;
 #[cfg(test)]
+mod replicating;
+#[cfg(test)]
 mod rows;
 #[cfg(test)]
 mod stops;

@@ -346,7 +346,7 @@ pub const WORDS: [Row; 6] = [
         left: &[],
     },
     Row {
-        line: "replicate d r",
+        line: "replicate -at-rest d r",
         replica: Replica::Whole,
         there: &[],
         why: Why::NotBuilt,

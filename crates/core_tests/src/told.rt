@@ -11,7 +11,7 @@ use std::test::Fail;
 /// A line, the replica, the bytes of the pages of the output that is there before, what is said, and the status.
 type Told = (&'static str, Replica, &'static [u8], &'static str, u8);
 
-const TOLD: [Told; 9] = [
+const TOLD: [Told; 10] = [
     (
         "restore -o",
         Replica::Whole,
@@ -32,6 +32,13 @@ const TOLD: [Told; 9] = [
         &[],
         "litestream: usage: bad txid: -txid=0\n",
         2,
+    ),
+    (
+        "replicate d R",
+        Replica::Empty,
+        &[],
+        "litestream: database header: 0 bytes\n",
+        1,
     ),
     (
         "demo",

@@ -1,5 +1,5 @@
 -- From the steps of a restore to what its answers mean.
-use Rattle.std.proofs.Common.{◌≡◌, ℕ, ◌≤◌, List, refl, ap, subst, ◌∙◌, inl, inr, arith}
+use Rattle.std.proofs.Common.{◌≡◌, ℕ, ◌≤◌, List, refl, subst, inl, inr, arith}
 use Rattle.std.specs.Prelude.{◌⊎◌}
 use Rattle.std.specs.Prelude.{Result, Ok, Err, OnOk, IfErr}
 use Rattle.ls_base.specs.Fault.{Rose}
@@ -131,13 +131,17 @@ module _ (r : Request) (scene : Scene) (t : ℕ) (plan : List FileName) (lacks :
     explains_sink_fault rose front = (rose, lacks, record { restored = restores; line = front })
 
 -- what was told after the reading and after the writing, of what lay in the folders before it and after it
-module _ (store store_mid target target_mid target_after after_mid : Told) (plan lent : List FileName) (output : List ℕ) (same_store : store_mid ≡ store) (same_target : target_mid ≡ target)
+module _ (store store_mid target target_mid target_after after_mid : Told) (plan lent : List FileName)
+    (output : List ℕ) (same_store : store_mid ≡ store) (same_target : target_mid ≡ target)
     (same_after : after_mid ≡ target_after) (same_plan : lent ≡ plan) where
-  pub explained_from : (a b c d : ℕ) (found : RestoreFault) → ExplainsRestore store_mid lent output target_mid after_mid a b c d found → ExplainsRestore store plan output target target_after a b c d found
+  pub explained_from : (a b c d : ℕ) (found : RestoreFault) → ExplainsRestore store_mid lent output target_mid
+      after_mid a b c d found → ExplainsRestore store plan output target target_after a b c d found
   explained_from a b c d found explained =
       subst (λ (p : List FileName). ExplainsRestore store p output target target_after a b c d found) same_plan
       (subst (λ (u : Told). ExplainsRestore store lent output target u a b c d found) same_after
-      (subst (λ (u : Told). ExplainsRestore store lent output u after_mid a b c d found) same_target (subst (λ (u : Told). ExplainsRestore u lent output target_mid after_mid a b c d found) same_store explained)))
+      (subst (λ (u : Told). ExplainsRestore store lent output u after_mid a b c d found) same_target
+      (subst (λ (u : Told). ExplainsRestore u lent output target_mid after_mid a b c d found) same_store
+      explained)))
 
   pub applied_from : (restored : Restored) → Applies store_mid lent output target_mid after_mid restored
       → Applies store plan output target target_after restored
@@ -148,8 +152,11 @@ module _ (store store_mid target target_mid target_after after_mid : Told) (plan
       (subst (λ (u : Told). Applies u lent output target_mid after_mid restored) same_store applied)))
 
 -- why there is no plan to the transaction that is asked for
-pub explains_plan : (r : Request) (store : Told) (before now : ℕ) (names : List FileName) (t : ℕ) (found : PlanFault) → IfFilesTold store (λ files. AreNames files names) → IfFilesTold store (λ files. IsAsked files names r.target t)
-    → ((after : ℕ) → found ≡ plan.MissingRange after → IsRetained names t → ⊥) → ((after : ℕ) → found ≡ plan.MissingRange after → IsGreatestRetainedBelow names t after) → ExplainsReading r store before now (why_of_plan found)
+pub explains_plan : (r : Request) (store : Told) (before now : ℕ) (names : List FileName) (t : ℕ) (found : PlanFault)
+    → IfFilesTold store (λ files. AreNames files names) → IfFilesTold store (λ files. IsAsked files names r.target t)
+    → ((after : ℕ) → found ≡ plan.MissingRange after → IsRetained names t → ⊥)
+    → ((after : ℕ) → found ≡ plan.MissingRange after → IsGreatestRetainedBelow names t after)
+    → ExplainsReading r store before now (why_of_plan found)
 explains_plan r store before now names t (plan.MissingRange after) are asked missing greatest = λ events told. record {
   names = names;
   are = are events told;
@@ -161,6 +168,7 @@ explains_plan r store before now names t (plan.MissingRange after) are asked mis
 explains_plan r store before now names t plan.Memory are asked missing greatest = tt
 
 -- what holds of a restore that returned well holds where the answer is Done
-pub where_done : (ended : Result (Unit {0}) Why) (P : Type 0) → OnOk ended P → IfErr ended (λ why. why ≡ Done → ⊥) → why_of ended ≡ Done → P
+pub where_done : (ended : Result (Unit {0}) Why) (P : Type 0) → OnOk ended P → IfErr ended (λ why. why ≡ Done → ⊥)
+    → why_of ended ≡ Done → P
 where_done (Ok x) P holds never done = holds
 where_done (Err why) P holds never done = absurd (never done)

@@ -1,5 +1,5 @@
 -- Of files that tell the truth no header is damaged.
-use Rattle.std.proofs.Common.{◌≡◌, ℕ, List, [], ◌∷◌, ◌++◌, length, Option, Some, sym, ap, subst, ◌∙◌, refl, arith}
+use Rattle.std.proofs.Common.{◌≡◌, ℕ, List, [], ◌∷◌, ◌++◌, Option, sym, ap, subst, ◌∙◌, refl, arith}
 use Rattle.std.specs.Prelude.{pos, negsuc, unwrap_or}
 use Rattle.std.specs.FinMap.{get}
 use Rattle.std.specs.List.{Contains}
@@ -20,7 +20,7 @@ use Rattle.replica_store.specs.Faithful.{IsFaithful, IsFaithfulFile}
 use Rattle.replica_store.specs.Listing.{AreListed, IsIn, IsValid, bytes_under, path_of, paths_of}
 use Rattle.replica_store.proofs.ExtendedLemmas.{begins_with_header}
 use Rattle.replica_store.proofs.FaithLemmas.{there_with}
-use Rattle.litestream_core.specs.Asked.{AreNames, HasBadHeader}
+use Rattle.litestream_core.specs.Asked.{HasBadHeader}
 use Rattle.litestream_core.specs.Exact.{HeadersAreGood}
 use Rattle.litestream_core.specs.Laws.{Laws}
 use Rattle.litestream_core.specs.Request.{Request}
@@ -30,7 +30,8 @@ use Rattle.litestream_core.proofs.HeaderLemmas.{good_or_bad}
 named : (names before after : List FileName) (name : FileName) → names ≡ before ++ name ∷ after → Contains names name
 named names before after name split =
     let has : Contains (name ∷ after) name = (0, omega arith, refl) in
-    subst (λ (list : List FileName). Contains list name) (sym split) (Contains-append_right before (name ∷ after) name has)
+    subst (λ (list : List FileName). Contains list name) (sym split)
+    (Contains-append_right before (name ∷ after) name has)
 
 listed_in : (files : Files) (names : List FileName) → AreListed files names → (name : FileName) → Contains names name
     → IsIn files name

@@ -1,9 +1,9 @@
 -- What the answers of a restore mean, and what stands after them.
-use Rattle.std.specs.Prelude.{◌≡◌, ℕ, List, [], true, false, Some, None, IsSome, Result, Ok, Err, ◌⊎◌, length}
+use Rattle.std.specs.Prelude.{◌≡◌, ℕ, List, [], true, false, Some, IsSome, Result, Ok, Err, ◌⊎◌, length}
 use Rattle.crash_disk.specs.declared.event.Event.{Event}
 use Rattle.ls_base.specs.Fault.{Rose}
 use Rattle.crash_disk.specs.GoesOn.{GoesOn}
-use Rattle.crash_disk.specs.Told.{Told, IfTold}
+use Rattle.crash_disk.specs.Told.{IfTold}
 use Rattle.crash_disk.specs.Files.{Files, file_at, size_of, files_after}
 use Rattle.crash_disk.specs.Output.{gains_text, GainsFront}
 use Rattle.ls_base.specs.State.{State, state_bytes}
@@ -17,7 +17,9 @@ use Rattle.page_cursors.specs.PlanFiles.{IsFirstDamaged, IsFirstMissing}
 use Rattle.restore_apply.specs.Staging.{WritesFile}
 use Rattle.crash_disk.specs.Stop.{LeavesNothing, LeavesAtMost}
 use Rattle.ls_answers.specs.declared.outcome.Why.{Why}
-use Rattle.ls_answers.specs.declared.outcome.Why.TheVariants.{Done, SkippedOutput, SkippedReplica, NotBuilt, Usage, NoReplica, MissingRange, NoMoment, Damaged, PageMissing, OutputExists, StoreFault, TargetFault, SinkFault, Memory}
+use Rattle.ls_answers.specs.declared.outcome.Why.TheVariants.{Done, SkippedOutput, SkippedReplica, NotBuilt, Usage}
+use Rattle.ls_answers.specs.declared.outcome.Why.TheVariants.{NoReplica, MissingRange, NoMoment, Damaged, PageMissing}
+use Rattle.ls_answers.specs.declared.outcome.Why.TheVariants.{OutputExists, StoreFault, TargetFault, SinkFault, Memory}
 use Rattle.litestream_core.specs.Asked.{AreNames, IsAsked, IsPlan, IsMissing, IsBefore, IsBadHeader}
 use Rattle.litestream_core.specs.Line.{restored_text}
 use Rattle.litestream_core.specs.Request.{Request}

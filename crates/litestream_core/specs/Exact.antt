@@ -15,7 +15,9 @@ use Rattle.replica_store.specs.Listing.{AreListed}
 use Rattle.ls_base.specs.State.{State}
 use Rattle.page_cursors.specs.PlanFiles.{Makes, IsFirstDamaged, IsFirstMissing}
 use Rattle.ls_answers.specs.declared.outcome.Why.{Why}
-use Rattle.ls_answers.specs.declared.outcome.Why.TheVariants.{Done, SkippedOutput, SkippedReplica, NoReplica, MissingRange, NoMoment, Damaged, PageMissing, OutputExists, Memory}
+use Rattle.ls_answers.specs.declared.outcome.Why.TheVariants.{Done, SkippedOutput, SkippedReplica, NoReplica}
+use Rattle.ls_answers.specs.declared.outcome.Why.TheVariants.{MissingRange, NoMoment, Damaged, PageMissing}
+use Rattle.ls_answers.specs.declared.outcome.Why.TheVariants.{OutputExists, Memory}
 use Rattle.litestream_core.specs.Asked.{AreNames, IsAsked, IsOfMoment, LacksMoment, HasBadHeader, IsPlan, IsMissing}
 use Rattle.litestream_core.specs.Command.{NotRisen}
 use Rattle.litestream_core.specs.Request.{Request}

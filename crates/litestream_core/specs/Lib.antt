@@ -9,4 +9,6 @@ pub mod Exact
 pub mod Preparing
 pub mod Laws
 pub mod Listing
+pub mod Replication
+pub mod Objects
 pub mod Carries

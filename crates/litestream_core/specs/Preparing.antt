@@ -14,7 +14,9 @@ use Rattle.restore_apply.specs.declared.restored.RestoreFault.TheVariants as fau
 use Rattle.restore_plan.specs.declared.chain.PlanFault.{PlanFault}
 use Rattle.restore_plan.specs.declared.chain.PlanFault.TheVariants as plan
 use Rattle.ls_answers.specs.declared.outcome.Why.{Why}
-use Rattle.ls_answers.specs.declared.outcome.Why.TheVariants.{Done, SkippedOutput, SkippedReplica, NotBuilt, Usage, NoReplica, MissingRange, NoMoment, Damaged, PageMissing, OutputExists, StoreFault, TargetFault, SinkFault, Memory}
+use Rattle.ls_answers.specs.declared.outcome.Why.TheVariants.{Done, SkippedOutput, SkippedReplica, NotBuilt, Usage}
+use Rattle.ls_answers.specs.declared.outcome.Why.TheVariants.{NoReplica, MissingRange, NoMoment, Damaged, PageMissing}
+use Rattle.ls_answers.specs.declared.outcome.Why.TheVariants.{OutputExists, StoreFault, TargetFault, SinkFault, Memory}
 use Rattle.litestream_core.specs.Asked.{IsMissing, IsBefore, IsBadHeader, IsTooEarly, HasBadHeaderAt}
 use Rattle.litestream_core.specs.Request.{Request}
 use Rattle.litestream_core.specs.Written.{LacksOutput, IfFilesTold}

@@ -3,7 +3,6 @@ use Rattle.std.specs.Prelude.{◌≡◌, ℕ, List, None, length, ◌⊎◌}
 use Rattle.crash_disk.specs.Files.{Files, file_at, files_after}
 use Rattle.crash_disk.specs.GoesOn.{GoesOn}
 use Rattle.crash_disk.specs.Told.{Told, IfTold}
-use Rattle.ls_base.specs.Fault.{Rose}
 use Rattle.ls_base.specs.State.{State, state_bytes}
 use Rattle.page_cursors.specs.PlanFiles.{Makes}
 use Rattle.replica_store.specs.declared.file_name.FileName.{FileName}

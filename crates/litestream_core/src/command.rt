@@ -17,12 +17,15 @@ use crate::law::laws;
 use crate::line::restored_line;
 use crate::listing::listed_in;
 use crate::prepare::prepare;
+use crate::replication::replication_in;
 use crate::request::{Request, request_in};
 use crash_disk::{Disk, Out};
+use live_gate::Live;
 use ls_answers::{Outcome, Why, say};
 use ls_base::Steps;
 use ls_words::{Words, WordsFault, read_words};
 use ltx_command::list_replica;
+use replicate_command::{refused_at_once, replicate};
 use restore_apply::RestoreFault;
 use std::alloc::Global;
 use std::marker::Brand;
@@ -57,7 +60,8 @@ fn restore<L: Ledger, S: Disk, T: Disk, O: Out>(
         (as_request request.now) store.old store.new target.old target.new out.old out.new) (why_of result) }
     ensures not_done { IfErr result (λ why. why ≡ Done → ⊥) }
     ensures attached { OnOk result (AreAttached (as_request request.now) (S.folder store.new) (T.folder target.new)) }
-    ensures store_unchanged { S.content store.new request.now.replica.now ≡ S.content store.old request.now.replica.now }
+    ensures store_unchanged { S.content store.new request.now.replica.now
+        ≡ S.content store.old request.now.replica.now }
     ensures later { FaultsStay (scene_of S.Disk T.Disk O.Out
         (as_request request.now) store.old store.new target.old target.new out.old out.new) }
 {
@@ -86,17 +90,22 @@ fn cause_of(ended: Result<(), Why>) -> Why
 }
 
 /// Carries the command out, and answers how it ended.
-fn carry_out<S: Disk, T: Disk, O: Out>(
+fn carry_out<L: Live, S: Disk, T: Disk, O: Out>(
     alloc: Global,
     words: &Words,
+    now: u64,
+    live: &mut L,
     store: &mut S,
     target: &mut T,
     out: &mut O,
 ) -> Why
-    ensures { Carries S.Disk T.Disk O.Out (command_of words.now) store.old store.new target.old target.new
-        out.old out.new result }
+    ensures { Carries (record { live = L.Live; store = S.Disk; target = T.Disk; out = O.Out })
+        (record { live = live.old; store = store.old; target = target.old; out = out.old })
+        (record { live = live.new; store = store.new; target = target.new; out = out.new }) result
+        now (command_of words.now) }
 {
     laws();
+    refused_at_once::<L, S, O>();
     let command = match read_words(alloc, words) {
         Ok(command) => command,
         Err(WordsFault::Usage(usage)) => return Why::Usage(usage),
@@ -109,10 +118,18 @@ fn carry_out<S: Disk, T: Disk, O: Out>(
     if let Some(replica) = listed_in(&command) {
         return list_replica(alloc, replica, store, out);
     }
+    if let Some(request) = replication_in(&command) {
+        return replicate(alloc, &request, now, live, store, out);
+    }
     Why::NotBuilt
 }
 
 /// Carries out the command that the words are, answers how it ended, and says to `err` why it was refused.
+///
+/// `replicate` stores in the replica's folder what changed in the database since the newest file there, in so many
+/// rounds, and prints a line to `out` for each. `live` is attached to the database and `store` to the replica's
+/// folder. All files get the one moment `now`, in ms since 1970-01-01T00:00:00Z, or that of the newest file where it
+/// is later.
 ///
 /// `restore` writes the database as of a transaction from the replica's files: as of the one that the words
 /// name, or the newest, or the last that was retained at or before a moment. It takes the chain of files that
@@ -125,11 +142,13 @@ fn carry_out<S: Disk, T: Disk, O: Out>(
 /// `ltx` prints the listing of the replica's files to `out`. `store` is attached to the replica's folder, and no
 /// file is changed.
 ///
-/// The other commands aren't built yet, and are refused as such. A refusal puts one line to `err`, with what was
-/// refused and where; a fault of `err` changes no answer.
-pub fn litestream<S: Disk, T: Disk, O: Out>(
+/// The other commands, and `replicate -at-rest`, aren't built yet, and are refused as such. A refusal puts one line
+/// to `err`, with what was refused and where; a fault of `err` changes no answer.
+pub fn litestream<L: Live, S: Disk, T: Disk, O: Out>(
     alloc: Global,
     words: &Words,
+    now: u64,
+    live: &mut L,
     store: &mut S,
     target: &mut T,
     out: &mut O,
@@ -137,14 +156,16 @@ pub fn litestream<S: Disk, T: Disk, O: Out>(
 ) -> Outcome
     ensures status { result.status ≡ status_of result.why }
     // What the answer means, when it comes, what is promised of it, and what stays, by the command.
-    ensures carried_out { Carries S.Disk T.Disk O.Out (command_of words.now) store.old store.new target.old target.new
-        out.old out.new result.why }
+    ensures carried_out { Carries (record { live = L.Live; store = S.Disk; target = T.Disk; out = O.Out })
+        (record { live = live.old; store = store.old; target = target.old; out = out.old })
+        (record { live = live.new; store = store.new; target = target.new; out = out.new }) result.why
+        now (command_of words.now) }
     // What is said: a refusal's line and nothing else.
     ensures said { HasTaken (O.text err.old) (O.text err.new) (O.fault_count err.old) (O.fault_count err.new)
         (said_text words.now result.why) }
     ensures silent { refusal_text words.now result.why ≡ None → err.new ≡ err.old }
 {
-    let why = carry_out(alloc, words, store, target, out);
+    let why = carry_out(alloc, words, now, live, store, target, out);
     say(err, words, &why);
     Outcome::of(why)
 }

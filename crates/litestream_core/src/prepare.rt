@@ -5,7 +5,8 @@ ghost use Rattle.replica_store.specs.Chain.{IsListOrdered};
 ghost use Rattle.ls_answers.specs.declared.outcome.Why.TheVariants.{StoreFault, TargetFault};
 ghost use Rattle.litestream_core.specs.Asked.{AreNames, IsPlan, AreAttached};
 ghost use Rattle.litestream_core.specs.Written.{LacksOutput, IfFilesTold};
-ghost use Rattle.litestream_core.specs.Preparing.{IsRefusalOf, why_of_plan, ExplainsOutput, ExplainsReading, ExplainsPrepare};
+ghost use Rattle.litestream_core.specs.Preparing.{IsRefusalOf, why_of_plan};
+ghost use Rattle.litestream_core.specs.Preparing.{ExplainsOutput, ExplainsReading, ExplainsPrepare};
 ghost use Rattle.litestream_core.specs.RequestView.{as_request};
 
 use crate::asked::{asked, refusal};
@@ -136,7 +137,8 @@ pub fn prepare<S: Disk, T: Disk>(
     ensures explained { IfErr result (ExplainsPrepare (as_request request.now)
         (S.content store.old request.now.replica.now) (S.fault_count store.old) (S.fault_count store.new)
         (T.content target.old request.now.folder.now) (T.fault_count target.old) (T.fault_count target.new)) }
-    ensures store_unchanged { S.content store.new request.now.replica.now ≡ S.content store.old request.now.replica.now }
+    ensures store_unchanged { S.content store.new request.now.replica.now
+        ≡ S.content store.old request.now.replica.now }
     ensures target_unchanged { T.content target.new request.now.folder.now ≡ T.content target.old
         request.now.folder.now }
     ensures store_later { S.fault_count store.old ≤ S.fault_count store.new }

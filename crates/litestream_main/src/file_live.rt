@@ -90,7 +90,8 @@ impl Live for FileLive {
 
     ghost told = { λ _. None };
 
-    ghost attached = { λ live. option_map (λ at. record { path = string_bytes at.path; at_rest = at.at_rest }) live.attached };
+    ghost attached = { λ live.
+        option_map (λ at. record { path = string_bytes at.path; at_rest = at.at_rest }) live.attached };
 
     ghost fault_count = { λ live. live.faults };
 

@@ -11,6 +11,8 @@ mod file_live;
 mod live_files;
 #[cfg(test)]
 mod live_tests;
+#[cfg(test)]
+mod pass_tests;
 mod passing;
 mod std_out;
 #[cfg(test)]
@@ -18,11 +20,13 @@ mod tests;
 
 use crash_disk::Out;
 use file_disk::FileDisk;
+use file_live::FileLive;
 use litestream_core::litestream;
 use ls_words::Words;
 use std::env;
 use std::io::{self, ErrorKind};
 use std::process::ExitCode;
+use std::time::{SystemTime, UNIX_EPOCH};
 use std_out::StdOut;
 
 /// Why there are no words to carry out.
@@ -72,8 +76,21 @@ fn words(rt: &HostRuntime) -> Result<Words, Refusal> {
     Ok(words)
 }
 
+/// The moment of the clock in ms since 1970-01-01T00:00:00Z, and 0 where the clock fails or is set before that.
+fn clock(rt: &HostRuntime) -> u64 {
+    let Ok(now) = SystemTime::now(rt) else {
+        return 0;
+    };
+    let Ok(since) = now.duration_since(UNIX_EPOCH) else {
+        return 0;
+    };
+    u64::try_from(since.as_millis()).unwrap_or(0)
+}
+
 /// Carries the command out over real files and streams.
 fn run(rt: HostRuntime, words: &Words) -> ExitCode {
+    let now = clock(&rt);
+    let mut live = FileLive::new(rt);
     let mut store = FileDisk::new(rt);
     let mut target = FileDisk::new(rt);
     let mut out = StdOut::stdout(rt);
@@ -81,6 +98,8 @@ fn run(rt: HostRuntime, words: &Words) -> ExitCode {
     let outcome = litestream(
         rt.alloc(),
         words,
+        now,
+        &mut live,
         &mut store,
         &mut target,
         &mut out,

@@ -16,6 +16,11 @@ returns-in-Err-clause-explained g c =
     let t = c.in_ok-txid.txid in
     subst (ExplainsReading r store _ _) (sym c.plan_refusal.ensures)
     (explains_plan r store _ _ c.in_ok-names.names t c.in-Err.fault c.in_ok-names.ensures.names
-    (λ events told. subst (λ (names : List FileName). IsAsked (files_after events) names r.target t) c.as_slice.ensures (c.in_ok-txid.ensures.asked events (sym (g.met.S.Disk.stands c.find_names.new.store r.replica c.in_ok-names.ensures.attached) ∙ c.in_ok-names.ensures.unchanged ∙ told)))
-    (λ after is. subst (λ (names : List FileName). IsRetained names t → ⊥) c.as_slice-2.ensures (c.in-Err.ensures.missing after (ap Err is)))
-    (λ after is. subst (λ (names : List FileName). IsGreatestRetainedBelow names t after) c.as_slice-2.ensures (c.in-Err.ensures.after after (ap Err is))))
+    (λ events told. subst (λ (names : List FileName). IsAsked (files_after events) names r.target t)
+    c.as_slice.ensures (c.in_ok-txid.ensures.asked events
+    (sym (g.met.S.Disk.stands c.find_names.new.store r.replica c.in_ok-names.ensures.attached)
+    ∙ c.in_ok-names.ensures.unchanged ∙ told)))
+    (λ after is. subst (λ (names : List FileName). IsRetained names t → ⊥) c.as_slice-2.ensures
+    (c.in-Err.ensures.missing after (ap Err is)))
+    (λ after is. subst (λ (names : List FileName). IsGreatestRetainedBelow names t after) c.as_slice-2.ensures
+    (c.in-Err.ensures.after after (ap Err is))))
