@@ -6,7 +6,7 @@
 Three measures: which runs are due at levels 1 and 9 by the names of a replica with merged files beside the single
 ones; the merge of many files of ten pages each; and the merge of two files of as many MiB, the pages of which take
 turns, beside `cat` of both and the `sync` of its output. Pages have 4096 bytes. The files are written by the code of
-examples/make_replica.py, and the merged file is read here and set beside their pages. All lie in a folder that goes
+bench/make_replica.py, and the merged file is read here and set beside their pages. All lie in a folder that goes
 away at the end. Each time is the best of some runs, and the machine's load is told with them.
 """
 
@@ -19,10 +19,9 @@ import sys
 import tempfile
 import time
 
-ROOT = os.path.dirname(os.path.dirname(os.path.abspath(__file__)))
-sys.path.insert(0, os.path.join(ROOT, "examples"))
-import make_replica  # noqa: E402
+import make_replica
 
+ROOT = os.path.dirname(os.path.dirname(os.path.abspath(__file__)))
 CRATE = os.path.join(ROOT, "crates", "levels_bench")
 PAGE_BYTES = 4096
 BLOCK_BYTES = 6 + PAGE_BYTES

@@ -30,10 +30,9 @@ except ImportError:
     print("skipped: this Python has no sqlite3")
     sys.exit(0)
 
-ROOT = os.path.dirname(os.path.dirname(os.path.abspath(__file__)))
-sys.path.insert(0, os.path.join(ROOT, "examples"))
-import make_replica  # noqa: E402
+import make_replica
 
+ROOT = os.path.dirname(os.path.dirname(os.path.abspath(__file__)))
 PAGE_BYTES = 4096
 SMALL_PAGES = 100  # of each of the many files
 SMALL_PAGE_BYTES = 1024
