@@ -1,5 +1,6 @@
 -- How parts of a run of a disk are joined.
-use Rattle.std.proofs.Common.{◌≡◌, List, [], ◌∷◌, ◌++◌, append_assoc, Option, Some, None, refl, sym, ap, subst, ◌∙◌, inl, inr}
+use Rattle.std.proofs.Common.{◌≡◌, List, [], ◌∷◌, ◌++◌, append_assoc, Option, Some, None, refl, sym, ap, subst, ◌∙◌}
+use Rattle.std.proofs.Common.{inl, inr}
 use Rattle.std.specs.Prelude.{option_map}
 use Rattle.crash_disk.specs.declared.event.Event.{Event}
 use Rattle.crash_disk.specs.Told.{Told, gains, IfTold, GainsOrNot}
@@ -21,23 +22,35 @@ grown_then a b c first second = record {
 }
 
 -- one more change
-pub goes_on-gains : (old new : Told) (event : Event) (P : List Event → List Event → Type 0) → new ≡ gains old event → ((events : List Event) → P events (event ∷ events)) → GoesOn old new P
+pub goes_on-gains : (old new : Told) (event : Event) (P : List Event → List Event → Type 0) → new ≡ gains old event
+    → ((events : List Event) → P events (event ∷ events)) → GoesOn old new P
 goes_on-gains old new event P is holds = record {
-  told = λ events told. (event ∷ events, is ∙ ap (option_map (λ es. event ∷ es)) told, holds events, grown_by event events);
+  told = λ events told. (
+    event ∷ events,
+    is ∙ ap (option_map (λ es. event ∷ es)) told,
+    holds events,
+    grown_by event
+        events,
+  );
   silent = λ silent. is ∙ ap (option_map (λ es. event ∷ es)) silent;
 }
 
 -- no change
-pub goes_on-same : (old new : Told) (P : List Event → List Event → Type 0) → new ≡ old → ((events : List Event) → P events events) → GoesOn old new P
-goes_on-same old new P is holds = record { told = λ events told. (events, is ∙ told, holds events, grown_same events); silent = λ silent. is ∙ silent }
+pub goes_on-same : (old new : Told) (P : List Event → List Event → Type 0) → new ≡ old
+    → ((events : List Event) → P events events) → GoesOn old new P
+goes_on-same old new P is holds = record
+    { told = λ events told. (events, is ∙ told, holds events, grown_same events); silent = λ silent. is ∙ silent }
 
 -- a change that took place or didn't
-pub goes_on-either : (old new : Told) (event : Event) (P : List Event → List Event → Type 0) → GainsOrNot old new event → ((events : List Event) → P events events) → ((events : List Event) → P events (event ∷ events)) → GoesOn old new P
+pub goes_on-either : (old new : Told) (event : Event) (P : List Event → List Event → Type 0)
+    → GainsOrNot old new event → ((events : List Event) → P events events)
+    → ((events : List Event) → P events (event ∷ events)) → GoesOn old new P
 goes_on-either old new event P (inl same) kept holds = goes_on-same old new P same kept
 goes_on-either old new event P (inr is) kept holds = goes_on-gains old new event P is holds
 
 -- one part of a run, and then another
-pub goes_on-then : (a b c : Told) (P Q R : List Event → List Event → Type 0) → GoesOn a b P → GoesOn b c Q → ((x y z : List Event) → P x y → Q y z → R x z) → GoesOn a c R
+pub goes_on-then : (a b c : Told) (P Q R : List Event → List Event → Type 0) → GoesOn a b P → GoesOn b c Q
+    → ((x y z : List Event) → P x y → Q y z → R x z) → GoesOn a c R
 goes_on-then a b c P Q R first second joins = record {
   told = λ events told.
       let f = first.told events told in
@@ -57,7 +70,8 @@ goes_on-then_grown a b c P Q R first second joins = record {
   silent = λ silent. second.silent (first.silent silent);
 }
 
-pub goes_on-weaker : (old new : Told) (P Q : List Event → List Event → Type 0) → GoesOn old new P → ((x y : List Event) → P x y → Q x y) → GoesOn old new Q
+pub goes_on-weaker : (old new : Told) (P Q : List Event → List Event → Type 0) → GoesOn old new P
+    → ((x y : List Event) → P x y → Q x y) → GoesOn old new Q
 goes_on-weaker old new P Q goes implies = record {
   told = λ events told. let g = goes.told events told in (g.0, g.1, implies events g.0 g.2, g.3);
   silent = goes.silent;
@@ -70,7 +84,8 @@ some_same : (a b : List Event) → ◌≡◌ {A = Told} (Some a) (Some b) → a 
 some_same a b e = cc
 
 -- what holds of the record now, where the run so far says it
-pub told_now : (old new : Told) (P : List Event → List Event → Type 0) (Q : List Event → Type 0) → GoesOn old new P → ((x y : List Event) → P x y → Q y) → IfTold new Q
+pub told_now : (old new : Told) (P : List Event → List Event → Type 0) (Q : List Event → Type 0) → GoesOn old new P
+    → ((x y : List Event) → P x y → Q y) → IfTold new Q
 told_now None new P Q goes implies events told = absurd (none_is_some events (sym (goes.silent refl) ∙ told))
 told_now (Some before) new P Q goes implies events told =
     let went = goes.told before refl in

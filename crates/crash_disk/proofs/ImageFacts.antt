@@ -1,5 +1,6 @@
 -- The definition of crash images at small disks worked by hand: which files a crash may leave, and which it can't.
-use Rattle.std.proofs.Common.{◌≡◌, ℕ, zero, suc, ◌<◌, List, [], ◌∷◌, length, Some, None, inl, inr, refl, sym, ◌∙◌, subst, arith, lit<}
+use Rattle.std.proofs.Common.{◌≡◌, ℕ, zero, suc, ◌<◌, List, [], ◌∷◌, length, Some, None, inl, inr, refl, sym, ◌∙◌}
+use Rattle.std.proofs.Common.{subst, arith, lit<}
 use Rattle.std.specs.Prelude.{slice_index}
 use Rattle.std.specs.FinMap.{get, get-insert}
 use Rattle.std.specs.Cmp.Lexicographic.{nat_list_cmp_total}
@@ -33,7 +34,8 @@ torn_outside : MayStandAt written_over (97 ∷ []) (Some (7 ∷ 9 ∷ 3 ∷ []))
 unfolding numbers_at number_at file_of
 torn_outside stands = elim stands.one [
   | inl image ↦
-      let kept : 7 ≡ 1 = image.kept 0 (lit< tt) (lit< tt) (λ some. elim some [ inl inside ↦ omega (arith, inside.0) | inr none ↦ none ]) in
+      let kept : 7 ≡ 1 = image.kept 0 (lit< tt) (lit< tt)
+      (λ some. elim some [ inl inside ↦ omega (arith, inside.0) | inr none ↦ none ]) in
       omega (arith, kept)
   | inr none ↦ none
 ]
@@ -42,7 +44,8 @@ torn_outside stands = elim stands.one [
 never_so_short : MayStandAt written_over (97 ∷ []) (Some (1 ∷ 9 ∷ [])) → ⊥
 unfolding numbers_at number_at file_of
 never_so_short stands = elim stands.one [
-  | inl image ↦ elim image.had_length [ inl now ↦ omega (arith, now) | inr before ↦ elim before [ inl same ↦ omega (arith, same) | inr none ↦ none ] ]
+  | inl image ↦ elim image.had_length
+      [ inl now ↦ omega (arith, now) | inr before ↦ elim before [ inl same ↦ omega (arith, same) | inr none ↦ none ] ]
   | inr none ↦ none
 ]
 
@@ -52,7 +55,10 @@ never_synced = Appended (97 ∷ []) (1 ∷ 2 ∷ []) ∷ Created (97 ∷ []) ∷
 
 any_bytes : MayStandAt never_synced (97 ∷ []) (Some (5 ∷ 6 ∷ []))
 unfolding numbers_at number_at file_of
-any_bytes = record { one = inl (record { had_length = inl refl; kept = λ place below synced free. absurd (omega (arith, synced)) }) }
+any_bytes = record {
+  one = inl
+      (record { had_length = inl refl; kept = λ place below synced free. absurd (omega (arith, synced)) });
+}
 
 -- and so may not be there
 not_there : MayStandAt never_synced (97 ∷ []) None
@@ -68,10 +74,17 @@ unfolding numbers_at number_at file_of
 old_name_stays = record { one = inr (inl (record { had_length = inl refl; kept = λ place below synced free. refl })) }
 
 -- a crash may leave the file under both names
-under_both : (image : Files) × IsCrashImage renamed image × (get image (97 ∷ []) ≡ Some (1 ∷ 2 ∷ [])) × (get image (98 ∷ []) ≡ Some (1 ∷ 2 ∷ []))
+under_both : (image : Files) × IsCrashImage renamed image × (get image (97 ∷ []) ≡ Some (1 ∷ 2 ∷ []))
+    × (get image (98 ∷ []) ≡ Some (1 ∷ 2 ∷ []))
 under_both =
-    let image = image_with renamed (97 ∷ []) (Some (1 ∷ 2 ∷ [])) old_name_stays in
-    (_, image.0, image.1, get-insert nat_list_cmp_total (files_after renamed) (97 ∷ []) (1 ∷ 2 ∷ []) (98 ∷ []) ∙ file_at-Renamed (Placed (97 ∷ []) (1 ∷ 2 ∷ []) ∷ []) (97 ∷ []) (98 ∷ []) (1 ∷ 2 ∷ []) (98 ∷ []) (file_at-Placed-here [] (97 ∷ []) (1 ∷ 2 ∷ [])))
+    let image = image_with renamed (97 ∷ []) (Some (1 ∷ 2 ∷ [])) old_name_stays in (
+      _,
+      image.0,
+      image.1,
+      get-insert nat_list_cmp_total (files_after renamed) (97 ∷ []) (1 ∷ 2 ∷ []) (98 ∷ [])
+          ∙ file_at-Renamed (Placed (97 ∷ []) (1 ∷ 2 ∷ []) ∷ []) (97 ∷ []) (98 ∷ []) (1 ∷ 2 ∷ []) (98 ∷ [])
+          (file_at-Placed-here [] (97 ∷ []) (1 ∷ 2 ∷ [])),
+    )
 
 -- but not other bytes under either
 no_other_bytes : MayStandAt renamed (98 ∷ []) (Some (1 ∷ 3 ∷ [])) → ⊥

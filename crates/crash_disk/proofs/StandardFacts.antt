@@ -3,14 +3,16 @@ use Rattle.std.proofs.Common.{◌≡◌, List, [], ◌∷◌, Some, None, refl, 
 use Rattle.crash_disk.specs.declared.event.Event.{Event}
 use Rattle.crash_disk.specs.declared.event.Event.TheVariants.{Placed, Created, Appended, Renamed}
 use Rattle.crash_disk.specs.Files.{file_at, with_bytes_at, with_length}
-use Rattle.crash_disk.proofs.FileLaws.{file_at-beginning, file_at-Created-here, file_at-Appended-here, file_at-Renamed, file_at-Placed}
+use Rattle.crash_disk.proofs.FileLaws.{file_at-beginning, file_at-Created-here, file_at-Appended-here, file_at-Renamed}
+use Rattle.crash_disk.proofs.FileLaws.{file_at-Placed}
 
 -- a file was created under the name 97, appended to twice, and renamed to 98
 abbrev two_pieces : List Event
 two_pieces = Appended (97 ∷ []) (3 ∷ []) ∷ Appended (97 ∷ []) (1 ∷ 2 ∷ []) ∷ Created (97 ∷ []) ∷ []
 
 there : file_at two_pieces (97 ∷ []) ≡ Some (1 ∷ 2 ∷ 3 ∷ [])
-there = file_at-Appended-here _ (97 ∷ []) (3 ∷ []) (1 ∷ 2 ∷ []) (file_at-Appended-here _ (97 ∷ []) (1 ∷ 2 ∷ []) [] (file_at-Created-here [] (97 ∷ [])))
+there = file_at-Appended-here _ (97 ∷ []) (3 ∷ []) (1 ∷ 2 ∷ [])
+    (file_at-Appended-here _ (97 ∷ []) (1 ∷ 2 ∷ []) [] (file_at-Created-here [] (97 ∷ [])))
 
 -- it reads as both pieces under its new name
 renamed_reads : file_at (Renamed (97 ∷ []) (98 ∷ []) ∷ two_pieces) (98 ∷ []) ≡ Some (1 ∷ 2 ∷ 3 ∷ [])

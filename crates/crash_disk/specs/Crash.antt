@@ -1,7 +1,9 @@
 -- What `crash` of a disk in memory leaves, by its choice.
-use Rattle.std.specs.Prelude.{◌≡◌, ℕ, Bool, false, if◌then◌else◌, ◌||◌, List, [], ◌∷◌, length, Option, Some, None, option_map}
+use Rattle.std.specs.Prelude.{◌≡◌, ℕ, Bool, false, if◌then◌else◌, ◌||◌, List, [], ◌∷◌, length, Option, Some, None}
+use Rattle.std.specs.Prelude.{option_map}
 use Rattle.crash_disk.specs.declared.event.Event.{Event}
-use Rattle.crash_disk.specs.declared.event.Event.TheVariants.{Placed, Created, Appended, Wrote, Cut, Synced, Renamed, Removed, NamesSynced}
+use Rattle.crash_disk.specs.declared.event.Event.TheVariants.{Placed, Created, Appended, Wrote, Cut, Synced, Renamed}
+use Rattle.crash_disk.specs.declared.event.Event.TheVariants.{Removed, NamesSynced}
 use Rattle.crash_disk.specs.Files.{file_at, is_name}
 use Rattle.crash_disk.specs.Numbers.{number_at, file_of}
 use Rattle.crash_disk.specs.Remnant.{takes_names, remnant_at, bytes_left}

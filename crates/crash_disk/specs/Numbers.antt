@@ -1,8 +1,10 @@
 -- The files behind the names, by number: a file's number is the length of the record when it was made.
-use Rattle.std.specs.Prelude.{ℕ, Bool, false, if◌then◌else◌, ◌||◌, ◌==◌, List, [], ◌∷◌, length, Option, Some, None, unwrap_or}
+use Rattle.std.specs.Prelude.{ℕ, Bool, false, if◌then◌else◌, ◌||◌, ◌==◌, List, [], ◌∷◌, length, Option, Some, None}
+use Rattle.std.specs.Prelude.{unwrap_or}
 use Rattle.std.specs.Option.{option_or}
 use Rattle.crash_disk.specs.declared.event.Event.{Event}
-use Rattle.crash_disk.specs.declared.event.Event.TheVariants.{Placed, Created, Appended, Wrote, Cut, Synced, Renamed, Removed, NamesSynced}
+use Rattle.crash_disk.specs.declared.event.Event.TheVariants.{Placed, Created, Appended, Wrote, Cut, Synced, Renamed}
+use Rattle.crash_disk.specs.declared.event.Event.TheVariants.{Removed, NamesSynced}
 use Rattle.crash_disk.specs.Files.{is_name}
 use Rattle.crash_disk.specs.FileState.{FileState, synced_file, appended, written, resized}
 

@@ -1,5 +1,6 @@
 -- What an object in memory counts of its calls, and which of them are to fail.
-use Rattle.std.specs.Prelude.{◌≡◌, ℕ, ◌+◌, ◌-◌, ◌^◌, min, ◌⊎◌, List, [], ◌∷◌, ◌++◌, Contains, Option, Some, None, option_map, Result, IsErr, OnOk, OnErr, IsErrOf}
+use Rattle.std.specs.Prelude.{◌≡◌, ℕ, ◌+◌, ◌-◌, ◌^◌, min, ◌⊎◌, List, [], ◌∷◌, ◌++◌, Contains, Option, Some, None}
+use Rattle.std.specs.Prelude.{option_map, Result, IsErr, OnOk, OnErr, IsErrOf}
 use Rattle.crash_disk.specs.declared.fault.NamesFault.{NamesFault}
 use Rattle.crash_disk.specs.declared.fault.NamesFault.TheVariants.{Disk}
 

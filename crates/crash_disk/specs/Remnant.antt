@@ -1,6 +1,7 @@
 -- What `crash` of a disk in memory leaves of the changes of a name and of a file's bytes, by its choice. This
 -- project's rule.
-use Rattle.std.specs.Prelude.{ℕ, ◌+◌, ◌-◌, ◌*◌, ◌/◌, ◌%◌, min, Bool, if◌then◌else◌, ◌==◌, nat_lt, List, [], ◌∷◌, ◌++◌, length, sum, take, drop, replicate}
+use Rattle.std.specs.Prelude.{ℕ, ◌+◌, ◌-◌, ◌*◌, ◌/◌, ◌%◌, min, Bool, if◌then◌else◌, ◌==◌, nat_lt, List, [], ◌∷◌, ◌++◌}
+use Rattle.std.specs.Prelude.{length, sum, take, drop, replicate}
 use Rattle.crash_disk.specs.declared.remnant.Remnant.{Remnant}
 use Rattle.crash_disk.specs.declared.remnant.Remnant.TheVariants.{OfTheSync, AsRead, Torn, OfEarlierLength}
 use Rattle.crash_disk.specs.Files.{with_length}

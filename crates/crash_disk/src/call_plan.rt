@@ -1,7 +1,8 @@
 //! What an object in memory counts of its calls, and which of them are to fail.
 
 ghost use Rattle.std.specs.Prelude.{◌≡◌, ◌≤◌, ◌++◌, [], ◌∷◌, ◌↔◌, Some, None, IsTrue, IsFalse, OnOk, OnErr};
-ghost use Rattle.crash_disk.specs.Plan.{Plan, counted, unused, with_failing, starved_once, nearer, IsNextToFail, passed, failed};
+ghost use Rattle.crash_disk.specs.Plan.{Plan, counted, unused, with_failing, starved_once, nearer, IsNextToFail};
+ghost use Rattle.crash_disk.specs.Plan.{passed, failed};
 
 use ls_base::Memory;
 use std::alloc::Global;

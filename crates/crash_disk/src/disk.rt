@@ -1,11 +1,14 @@
 //! The trait of a disk.
 
-ghost use Rattle.std.specs.Prelude.{◌≡◌, ◌≢◌, ◌<◌, ◌≤◌, ◌^◌, ℕ, List, Option, Some, length, is_some, IfOk, IfSome, OnOk, OnErr};
+ghost use Rattle.std.specs.Prelude.{◌≡◌, ◌≢◌, ◌<◌, ◌≤◌, ◌^◌, ℕ, List, Option, Some, length, is_some, IfOk, IfSome};
+ghost use Rattle.std.specs.Prelude.{OnOk, OnErr};
 ghost use Rattle.crash_disk.specs.declared.event.Event.{Event};
-ghost use Rattle.crash_disk.specs.declared.event.Event.TheVariants.{Created, Appended, Wrote, Cut, Synced, Renamed, Removed, NamesSynced};
+ghost use Rattle.crash_disk.specs.declared.event.Event.TheVariants.{Created, Appended, Wrote, Cut, Synced, Renamed};
+ghost use Rattle.crash_disk.specs.declared.event.Event.TheVariants.{Removed, NamesSynced};
 ghost use Rattle.ls_base.specs.Fault.{HasCause};
 ghost use Rattle.crash_disk.specs.Fault.{NamesHasCause};
-ghost use Rattle.crash_disk.specs.Told.{Told, gains, gives, Keeps, IfTold, GainsOrNot, GainsPrefixOrNot, GainsBytesOrNot};
+ghost use Rattle.crash_disk.specs.Told.{Told, gains, gives, Keeps, IfTold, GainsOrNot, GainsPrefixOrNot};
+ghost use Rattle.crash_disk.specs.Told.{GainsBytesOrNot};
 ghost use Rattle.crash_disk.specs.Files.{size_of, IsThere, IsReadOf, AreNamesOf};
 
 use crate::fault::{DiskFault, NamesFault};

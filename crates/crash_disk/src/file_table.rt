@@ -1,6 +1,7 @@
 //! Files by name.
 
-ghost use Rattle.std.specs.Prelude.{◌≡◌, ◌≢◌, ◌<◌, ◌+◌, ◌^◌, ◌++◌, ◌↔◌, length, Some, IsTrue, IfOk, IfSome, OnOk, OnErr, option_copied};
+ghost use Rattle.std.specs.Prelude.{◌≡◌, ◌≢◌, ◌<◌, ◌+◌, ◌^◌, ◌++◌, ◌↔◌, length, Some, IsTrue, IfOk, IfSome, OnOk};
+ghost use Rattle.std.specs.Prelude.{OnErr, option_copied};
 ghost use Rattle.std.specs.FinMap as map;
 ghost use Rattle.crash_disk.specs.Files.{changed_now, moved, with_bytes_at, with_length};
 

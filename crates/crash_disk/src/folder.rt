@@ -1,10 +1,12 @@
 //! Files and the record of what was done to them.
 
-ghost use Rattle.std.specs.Prelude.{◌≡◌, ◌≢◌, ◌<◌, ◌^◌, [], ◌∷◌, length, IfOk, IfSome, OnOk, OnErr, option_copied, reverse, ℕ, List};
+ghost use Rattle.std.specs.Prelude.{◌≡◌, ◌≢◌, ◌<◌, ◌^◌, [], ◌∷◌, length, IfOk, IfSome, OnOk, OnErr, option_copied};
+ghost use Rattle.std.specs.Prelude.{reverse, ℕ, List};
 ghost use Rattle.crash_disk.specs.Images.{ArePlaced};
 ghost use Rattle.crash_disk.specs.Crash.{LeavesByChoice};
 ghost use Rattle.crash_disk.specs.Crashed.{TakesLeft, AreLeft};
-ghost use Rattle.crash_disk.specs.declared.event.Event.TheVariants.{Placed, Created, Appended, Wrote, Cut, Synced, Renamed, Removed, NamesSynced};
+ghost use Rattle.crash_disk.specs.declared.event.Event.TheVariants.{Placed, Created, Appended, Wrote, Cut, Synced};
+ghost use Rattle.crash_disk.specs.declared.event.Event.TheVariants.{Renamed, Removed, NamesSynced};
 ghost use Rattle.crash_disk.specs.Files.{file_at, files_after};
 ghost use Rattle.std.specs.FinMap as map;
 

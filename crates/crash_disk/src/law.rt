@@ -1,6 +1,7 @@
 //! What follows from the rules of crashes, whatever was done to a disk.
 
-ghost use Rattle.crash_disk.specs.CrashLaws.{ReadFilesAreAnImage, SyncedDiskHasOneImage, CrashedDiskHasOneImage, PutIsCrashSafe};
+ghost use Rattle.crash_disk.specs.CrashLaws.{ReadFilesAreAnImage, SyncedDiskHasOneImage, CrashedDiskHasOneImage};
+ghost use Rattle.crash_disk.specs.CrashLaws.{PutIsCrashSafe};
 
 /// A crash may leave the files as they read.
 pub fn read_files_are_an_image()

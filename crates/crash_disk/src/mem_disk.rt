@@ -1,14 +1,17 @@
 //! A disk in memory.
 
-ghost use Rattle.std.specs.Prelude.{◌≡◌, ◌≢◌, ◌<◌, ◌≤◌, ◌+◌, ◌-◌, ◌^◌, ◌++◌, ℕ, List, [], ◌∷◌, Option, Some, None, length, min, take, drop, IfOk, IfSome, IsErrOf, OnOk, OnErr, refl};
-ghost use Rattle.crash_disk.specs.declared.event.Event.TheVariants.{Placed, Created, Appended, Wrote, Cut, Synced, Renamed, Removed, NamesSynced};
+ghost use Rattle.std.specs.Prelude.{◌≡◌, ◌≢◌, ◌<◌, ◌≤◌, ◌+◌, ◌-◌, ◌^◌, ◌++◌, ℕ, List, [], ◌∷◌, Option, Some, None};
+ghost use Rattle.std.specs.Prelude.{length, min, take, drop, IfOk, IfSome, IsErrOf, OnOk, OnErr, refl};
+ghost use Rattle.crash_disk.specs.declared.event.Event.TheVariants.{Placed, Created, Appended, Wrote, Cut, Synced};
+ghost use Rattle.crash_disk.specs.declared.event.Event.TheVariants.{Renamed, Removed, NamesSynced};
 ghost use Rattle.ls_base.specs.Fault.{HasCause};
 ghost use Rattle.crash_disk.specs.Fault.{NamesHasCause};
 ghost use Rattle.crash_disk.specs.Told.{gains, Keeps, IfTold, GainsOrNot, GainsPrefixOrNot, GainsBytesOrNot};
 ghost use Rattle.crash_disk.specs.Files.{files_after, file_at, size_of, IsThere, IsReadOf, AreNamesOf};
 ghost use Rattle.crash_disk.specs.Images.{IsCrashImage, ArePlaced};
 ghost use Rattle.crash_disk.specs.Crash.{LeavesByChoice};
-ghost use Rattle.crash_disk.specs.Plan.{unused, with_failing, starved_once, Passes, Fails, FailsByPlan, FailsOrStarves, AnswersMemory};
+ghost use Rattle.crash_disk.specs.Plan.{unused, with_failing, starved_once, Passes, Fails, FailsByPlan, FailsOrStarves};
+ghost use Rattle.crash_disk.specs.Plan.{AnswersMemory};
 ghost use Rattle.crash_disk.specs.Memory.{DiskState};
 
 use crate::call_plan::CallPlan;

@@ -1,5 +1,6 @@
 -- The database header: SQLite database file format, section 1.3.
-use Rattle.std.specs.Prelude.{◌≡◌, ℕ, ◌+◌, ◌*◌, ◌<◌, ◌≤◌, ◌==◌, if◌then◌else◌, List, [], ◌∷◌, ◌++◌, length, take, slice_index, codes}
+use Rattle.std.specs.Prelude.{◌≡◌, ℕ, ◌+◌, ◌*◌, ◌<◌, ◌≤◌, ◌==◌, if◌then◌else◌, List, [], ◌∷◌, ◌++◌, length, take}
+use Rattle.std.specs.Prelude.{slice_index, codes}
 use Rattle.ls_base.specs.PageSize.{IsPageSize}
 use Rattle.db_page.specs.declared.fault.HeaderFault.{HeaderFault}
 use Rattle.db_page.specs.declared.fault.HeaderFault.TheVariants.{Short, NotDatabase, BadPageSize, NotWalMode}

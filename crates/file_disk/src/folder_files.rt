@@ -193,7 +193,8 @@ impl FolderFiles {
     }
 
     fn path(&self, folder: &Option<String>, name: &str) -> io::Result<String>
-        ensures value { IfOk result (λ path. IsPathOf (option_map string_bytes folder.now) name.now (string_bytes path)) }
+        ensures value { IfOk result (λ path.
+            IsPathOf (option_map string_bytes folder.now) name.now (string_bytes path)) }
         ensures attached { IsOk result → IsSome folder.now }
     {
         match folder {

@@ -1,5 +1,6 @@
 -- A line that is put piece by piece.
-use Rattle.std.proofs.Common.{◌≡◌, ℕ, List, [], ◌++◌, Option, Some, None, length, take, drop, codes, refl, sym, ap, ◌∙◌, append_assoc, append-nil, get_or, Bor}
+use Rattle.std.proofs.Common.{◌≡◌, ℕ, List, [], ◌++◌, Option, Some, None, length, take, drop, codes, refl, sym, ap, ◌∙◌}
+use Rattle.std.proofs.Common.{append_assoc, append-nil, get_or, Bor}
 use Rattle.std.specs.Prelude.{option_copied, unwrap_or}
 use Rattle.std.specs.List.{slice_get}
 use Rattle.std.proofs.lemmas.Option.{unwrap_or-slice_get}

@@ -29,7 +29,8 @@ first_two = record { page_size = 512; commit = 2; pages = numbered }
 
 first_is : get numbered 1 ≡ Some (page 17)
 unfolding numbered
-first_is = get-insert nat_cmp_total (insert empty 1 (page 17)) 2 (page 34) 1 ∙ get-insert nat_cmp_total empty 1 (page 17) 1
+first_is = get-insert nat_cmp_total (insert empty 1 (page 17)) 2 (page 34) 1
+    ∙ get-insert nat_cmp_total empty 1 (page 17) 1
 
 second_is : get numbered 2 ≡ Some (page 34)
 unfolding numbered
@@ -109,11 +110,13 @@ other_place_is_none = refl
 pub sync_log : SyncLog
 sync_log = record { place = place 1104; moment = 1700000000000 } ∷ []
 
-pub recorded : (recorded_state history sync_log 0 ≡ Some empty_state) × (recorded_state history sync_log 1 ≡ Some two_pages) × (recorded_state history sync_log 2 ≡ None)
+pub recorded : (recorded_state history sync_log 0 ≡ Some empty_state)
+    × (recorded_state history sync_log 1 ≡ Some two_pages) × (recorded_state history sync_log 2 ≡ None)
 unfolding sync_log history place two_at one_at two_pages
 recorded = (refl, refl, refl)
 
 -- texts of transactions
-pub texts : (hex_digits 171 ≡ codes "00000000000000ab") × (txid_of (codes "fF") ≡ Some 255) × (txid_of (codes "0") ≡ None) × (txid_of (codes "00000000000000001") ≡ None) × (txid_of (codes "+1") ≡ None)
+pub texts : (hex_digits 171 ≡ codes "00000000000000ab") × (txid_of (codes "fF") ≡ Some 255)
+    × (txid_of (codes "0") ≡ None) × (txid_of (codes "00000000000000001") ≡ None) × (txid_of (codes "+1") ≡ None)
 unfolding hex_digits txid_of
 texts = (refl, refl, refl, refl, refl)

@@ -1,5 +1,6 @@
 -- Bit steps: they are linear under exclusive or, and they add up.
-use Rattle.std.proofs.Common.{◌≡◌, ℕ, zero, suc, ◌+◌, ◌*◌, ◌/◌, ◌%◌, ◌^◌, ◌<◌, eqb, refl, sym, ap, ◌∙◌, ◌==◌, if◌then◌else◌, arith}
+use Rattle.std.proofs.Common.{◌≡◌, ℕ, zero, suc, ◌+◌, ◌*◌, ◌/◌, ◌%◌, ◌^◌, ◌<◌, eqb, refl, sym, ap, ◌∙◌, ◌==◌}
+use Rattle.std.proofs.Common.{if◌then◌else◌, arith}
 use Rattle.std.specs.Int.Bits.{bit_xor, xor_assoc}
 use Rattle.std.proofs.lemmas.Bool.{cond_both}
 use Rattle.std.proofs.lemmas.Nat.{xor_shr, xor_mod, xor_lt, mod_below}
@@ -21,7 +22,8 @@ step-xor r (suc (suc s)) a b p q = absurd (omega arith)
 
 pub after_bit-xor : (a b : ℕ) → after_bit (bit_xor a b) ≡ bit_xor (after_bit a) (after_bit b)
 after_bit-xor a b =
-    ap (λ (r : ℕ). step r (bit_xor a b / 2)) (xor_mod a b 1) ∙ ap (λ (h : ℕ). step (bit_xor (a % 2) (b % 2)) h) (xor_shr a b 1)
+    ap (λ (r : ℕ). step r (bit_xor a b / 2)) (xor_mod a b 1)
+    ∙ ap (λ (h : ℕ). step (bit_xor (a % 2) (b % 2)) h) (xor_shr a b 1)
     ∙ step-xor (a % 2) (b % 2) (a / 2) (b / 2) (mod_below a 2 (omega arith)) (mod_below b 2 (omega arith))
 
 pub after_bits-zero : (register : ℕ) → after_bits 0 register ≡ register
@@ -58,7 +60,8 @@ unfolding after_bits
 after_bits-shifted zero a = omega arith
 after_bits-shifted (suc n) a =
     let e : a * 2 ^ suc n ≡ a * 2 ^ n * 2 = ap (λ (x : ℕ). a * x) (pow-suc 2 n) ∙ sym (mul_assoc a (2 ^ n) 2) in
-    ap (λ (x : ℕ). after_bits n (after_bit x)) e ∙ ap (λ (x : ℕ). after_bits n x) (after_bit-even (a * 2 ^ n)) ∙ after_bits-shifted n a
+    ap (λ (x : ℕ). after_bits n (after_bit x)) e ∙ ap (λ (x : ℕ). after_bits n x) (after_bit-even (a * 2 ^ n))
+    ∙ after_bits-shifted n a
 
 after_bit-lt : (register : ℕ) → register < 2 ^ 64 → after_bit register < 2 ^ 64
 after_bit-lt register lt =

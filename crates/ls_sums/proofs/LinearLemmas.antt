@@ -1,5 +1,6 @@
 -- Functions that are linear under exclusive or: two that agree at the powers of two agree.
-use Rattle.std.proofs.Common.{◌≡◌, ℕ, zero, suc, ◌+◌, ◌-◌, ◌*◌, ◌/◌, ◌%◌, ◌^◌, ◌<◌, ◌≤◌, Bool, true, ◌&&◌, eqb, sym, ap, subst, ◌∙◌, ⊎_elim, arith}
+use Rattle.std.proofs.Common.{◌≡◌, ℕ, zero, suc, ◌+◌, ◌-◌, ◌*◌, ◌/◌, ◌%◌, ◌^◌, ◌<◌, ◌≤◌, Bool, true, ◌&&◌, eqb, sym, ap}
+use Rattle.std.proofs.Common.{subst, ◌∙◌, ⊎_elim, arith}
 use Rattle.std.specs.Int.Bits.{bit_xor, xor_self}
 use Rattle.std.proofs.lemmas.Bool.{eqb-true, and_parts, cases_lt}
 use Rattle.std.proofs.lemmas.Nat.{xor_shr, xor_mod}

@@ -29,9 +29,12 @@ shr_swap n j k =
 pub moved-shr : (n : ℕ) → moved (n / 2 ^ 64) ≡ moved n / 2 ^ 64
 unfolding moved
 moved-shr n =
-    ap (λ (x : ℕ). bit_xor (bit_xor x (n / 2 ^ 64 / 2 ^ 192)) (bit_xor (n / 2 ^ 64 / 2 ^ 64) (n / 2 ^ 64))) (shr_swap n 64 256)
-    ∙ ap (λ (x : ℕ). bit_xor (bit_xor (n / 2 ^ 256 / 2 ^ 64) x) (bit_xor (n / 2 ^ 64 / 2 ^ 64) (n / 2 ^ 64))) (shr_swap n 64 192)
-    ∙ ap (λ (x : ℕ). bit_xor x (bit_xor (n / 2 ^ 64 / 2 ^ 64) (n / 2 ^ 64))) (sym (xor_shr (n / 2 ^ 256) (n / 2 ^ 192) 64))
+    ap (λ (x : ℕ). bit_xor (bit_xor x (n / 2 ^ 64 / 2 ^ 192)) (bit_xor (n / 2 ^ 64 / 2 ^ 64) (n / 2 ^ 64)))
+    (shr_swap n 64 256)
+    ∙ ap (λ (x : ℕ). bit_xor (bit_xor (n / 2 ^ 256 / 2 ^ 64) x) (bit_xor (n / 2 ^ 64 / 2 ^ 64) (n / 2 ^ 64)))
+    (shr_swap n 64 192)
+    ∙ ap (λ (x : ℕ). bit_xor x (bit_xor (n / 2 ^ 64 / 2 ^ 64) (n / 2 ^ 64)))
+    (sym (xor_shr (n / 2 ^ 256) (n / 2 ^ 192) 64))
     ∙ ap (λ (x : ℕ). bit_xor (bit_xor (n / 2 ^ 256) (n / 2 ^ 192) / 2 ^ 64) x) (sym (xor_shr (n / 2 ^ 64) n 64))
     ∙ sym (xor_shr (bit_xor (n / 2 ^ 256) (n / 2 ^ 192)) (bit_xor (n / 2 ^ 64) n) 64)
 
@@ -42,7 +45,8 @@ shl_shr_less i k n v e =
 
 bits_within : (i j n v : ℕ) → i + j ≡ n → after_bits n (v * 2 ^ i) ≡ after_bits j v
 bits_within i j n v e =
-    ap (λ (m : ℕ). after_bits m (v * 2 ^ i)) (sym e) ∙ sym (after_bits-add i j (v * 2 ^ i)) ∙ ap (after_bits j) (after_bits-shifted i v)
+    ap (λ (m : ℕ). after_bits m (v * 2 ^ i)) (sym e) ∙ sym (after_bits-add i j (v * 2 ^ i))
+    ∙ ap (after_bits j) (after_bits-shifted i v)
 
 -- the last word of the ring is moved by the rule
 abbrev at_top : ℕ → ℕ
@@ -52,17 +56,22 @@ moved_top : (v : ℕ) → moved (v * 2 ^ 4032) ≡ at_top v
 unfolding moved
 moved_top v =
     let last = v * 2 ^ 4032 in
-    ap (λ (x : ℕ). bit_xor (bit_xor x (last / 2 ^ 192)) (bit_xor (last / 2 ^ 64) last)) (shl_shr_less 3776 256 4032 v refl)
-    ∙ ap (λ (x : ℕ). bit_xor (bit_xor (v * 2 ^ 3776) x) (bit_xor (last / 2 ^ 64) last)) (shl_shr_less 3840 192 4032 v refl)
-    ∙ ap (λ (x : ℕ). bit_xor (bit_xor (v * 2 ^ 3776) (v * 2 ^ 3840)) (bit_xor x last)) (shl_shr_less 3968 64 4032 v refl)
+    ap (λ (x : ℕ). bit_xor (bit_xor x (last / 2 ^ 192)) (bit_xor (last / 2 ^ 64) last))
+    (shl_shr_less 3776 256 4032 v refl)
+    ∙ ap (λ (x : ℕ). bit_xor (bit_xor (v * 2 ^ 3776) x) (bit_xor (last / 2 ^ 64) last))
+    (shl_shr_less 3840 192 4032 v refl)
+    ∙ ap (λ (x : ℕ). bit_xor (bit_xor (v * 2 ^ 3776) (v * 2 ^ 3840)) (bit_xor x last))
+    (shl_shr_less 3968 64 4032 v refl)
 
-xor_parts : (n a b c d : ℕ) → after_bits n (bit_xor (bit_xor a b) (bit_xor c d)) ≡ bit_xor (bit_xor (after_bits n a) (after_bits n b)) (bit_xor (after_bits n c) (after_bits n d))
+xor_parts : (n a b c d : ℕ) → after_bits n (bit_xor (bit_xor a b) (bit_xor c d)) ≡ bit_xor
+    (bit_xor (after_bits n a) (after_bits n b)) (bit_xor (after_bits n c) (after_bits n d))
 xor_parts n a b c d =
     after_bits-xor n (bit_xor a b) (bit_xor c d)
     ∙ ap (λ (x : ℕ). bit_xor x (after_bits n (bit_xor c d))) (after_bits-xor n a b)
     ∙ ap (λ (x : ℕ). bit_xor (bit_xor (after_bits n a) (after_bits n b)) x) (after_bits-xor n c d)
 
-pub four : (a b c d e f g h : ℕ) → a ≡ e → b ≡ f → c ≡ g → d ≡ h → bit_xor (bit_xor a b) (bit_xor c d) ≡ bit_xor (bit_xor e f) (bit_xor g h)
+pub four : (a b c d e f g h : ℕ) → a ≡ e → b ≡ f → c ≡ g → d ≡ h
+    → bit_xor (bit_xor a b) (bit_xor c d) ≡ bit_xor (bit_xor e f) (bit_xor g h)
 four a b c d e f g h p q r s =
     ap (λ (x : ℕ). bit_xor (bit_xor x b) (bit_xor c d)) p ∙ ap (λ (x : ℕ). bit_xor (bit_xor e x) (bit_xor c d)) q
     ∙ ap (λ (x : ℕ). bit_xor (bit_xor e f) (bit_xor x d)) r ∙ ap (λ (x : ℕ). bit_xor (bit_xor e f) (bit_xor g x)) s
@@ -80,7 +89,8 @@ top_bits v lt =
     ∙ sym (rule_4096 word (after_bits-lt 64 v lt))
 
 -- One more word behind a ring: its first word goes, and the word with what was moved to its place comes last.
-pub holds_next : (n word v register : ℕ) → n < 2 ^ 4096 → v < 2 ^ 64 → v ≡ bit_xor word (moved n % 2 ^ 64) → HoldsNumber n register → HoldsNumber (v * 2 ^ 4032 + n / 2 ^ 64) (after_word register word)
+pub holds_next : (n word v register : ℕ) → n < 2 ^ 4096 → v < 2 ^ 64 → v ≡ bit_xor word (moved n % 2 ^ 64)
+    → HoldsNumber n register → HoldsNumber (v * 2 ^ 4032 + n / 2 ^ 64) (after_word register word)
 unfolding HoldsNumber
 holds_next n word v register small fits is_v holds =
     let bits = after_bits 4096 in
@@ -95,9 +105,11 @@ holds_next n word v register small fits is_v holds =
     let left : after_bits 4096 (after_word register word) ≡ bit_xor (bits others) (bits (after_bits 64 v))
     = ap bits (sym (after_word-is register word))
     ∙ bits_commute 4096 64 (bit_xor register word)
-    ∙ ap (after_bits 64) (after_bits-xor 4096 register word ∙ ap (λ (x : ℕ). bit_xor x (bits word)) holds ∙ sym (after_bits-xor 4096 all word) ∙ ap bits joined)
+    ∙ ap (after_bits 64) (after_bits-xor 4096 register word ∙ ap (λ (x : ℕ). bit_xor x (bits word)) holds
+    ∙ sym (after_bits-xor 4096 all word) ∙ ap bits joined)
     ∙ bits_commute 64 4096 (bit_xor (others * 2 ^ 64) v)
-    ∙ ap bits (after_bits-xor 64 (others * 2 ^ 64) v ∙ ap (λ (x : ℕ). bit_xor x (after_bits 64 v)) (after_bits-shifted 64 others))
+    ∙ ap bits (after_bits-xor 64 (others * 2 ^ 64) v ∙ ap (λ (x : ℕ). bit_xor x (after_bits 64 v))
+    (after_bits-shifted 64 others))
     ∙ after_bits-xor 4096 others (after_bits 64 v) in
     let rest : n / 2 ^ 64 < 2 ^ 4032 = shr_below n 4032 64 small in
     let right : bits (moved (v * 2 ^ 4032 + n / 2 ^ 64)) ≡ bit_xor (bits (after_bits 64 v)) (bits others)

@@ -1,5 +1,6 @@
 -- The sums of a log over pairs of words.
-use Rattle.std.proofs.Common.{◌≡◌, ℕ, ◌+◌, ◌*◌, ◌/◌, ◌%◌, ◌<◌, List, [], ◌∷◌, ◌++◌, length, get_or, take, drop, refl, sym, ap, ◌∙◌, arith}
+use Rattle.std.proofs.Common.{◌≡◌, ℕ, ◌+◌, ◌*◌, ◌/◌, ◌%◌, ◌<◌, List, [], ◌∷◌, ◌++◌, length, get_or, take, drop, refl}
+use Rattle.std.proofs.Common.{sym, ap, ◌∙◌, arith}
 use Rattle.std.specs.List.{concat}
 use Rattle.std.specs.Simd.{first_chunks}
 use Rattle.std.proofs.Math.Seq.{take-length}
@@ -15,7 +16,8 @@ first_word order pair = word order (get_or pair 0 0) (get_or pair 1 0) (get_or p
 abbrev pub second_word : Order → List ℕ → ℕ
 second_word order pair = word order (get_or pair 4 0) (get_or pair 5 0) (get_or pair 6 0) (get_or pair 7 0)
 
-words_of_pair : (order : Order) (pair bytes : List ℕ) → length pair ≡ 8 → words order (pair ++ bytes) ≡ first_word order pair ∷ second_word order pair ∷ words order bytes
+words_of_pair : (order : Order) (pair bytes : List ℕ) → length pair ≡ 8
+    → words order (pair ++ bytes) ≡ first_word order pair ∷ second_word order pair ∷ words order bytes
 words_of_pair order (a ∷ b ∷ c ∷ d ∷ e ∷ f ∷ g ∷ h ∷ []) bytes eight = refl
 words_of_pair order (a ∷ b ∷ c ∷ d ∷ e ∷ f ∷ g ∷ h ∷ i ∷ pair) bytes eight = absurd (omega arith)
 words_of_pair order (a ∷ b ∷ c ∷ d ∷ e ∷ f ∷ g ∷ []) bytes eight = absurd (omega arith)
@@ -28,9 +30,11 @@ words_of_pair order (a ∷ []) bytes eight = absurd (omega arith)
 words_of_pair order [] bytes eight = absurd (omega arith)
 
 -- one more pair
-pub sums_of_pair : (order : Order) (sum : WalSum) (pairs : List (List ℕ)) (i x y : ℕ) → i < length pairs → length (get_or pairs i []) ≡ 8
+pub sums_of_pair : (order : Order) (sum : WalSum) (pairs : List (List ℕ)) (i x y : ℕ) → i < length pairs
+    → length (get_or pairs i []) ≡ 8
     → x ≡ first_word order (get_or pairs i []) → y ≡ second_word order (get_or pairs i [])
-    → after_words (after_pair sum x y) (words order (concat (drop (i + 1) pairs))) ≡ after_words sum (words order (concat (drop i pairs)))
+    → after_words (after_pair sum x y) (words order (concat (drop (i + 1) pairs))) ≡ after_words sum
+    (words order (concat (drop i pairs)))
 sums_of_pair order sum pairs i x y lt eight is_x is_y =
     let rest = concat (drop (i + 1) pairs) in
     let pair = get_or pairs i [] in
@@ -46,7 +50,9 @@ all_pairs bytes whole =
     concat_chunks 8 (length bytes / 8) bytes ∙ ap (λ (n : ℕ). take n bytes) e ∙ take-length bytes
 
 -- one list of pairs behind another
-pub after_words-append : (order : Order) (sum : WalSum) (front back : List ℕ) → length front % 8 ≡ 0 → after_words (after_words sum (words order front)) (words order back) ≡ after_words sum (words order (front ++ back))
+pub after_words-append : (order : Order) (sum : WalSum) (front back : List ℕ) → length front % 8 ≡ 0
+    → after_words (after_words sum (words order front)) (words order back) ≡ after_words sum
+    (words order (front ++ back))
 after_words-append order sum [] back whole = refl
 after_words-append order sum (a ∷ b ∷ c ∷ d ∷ e ∷ f ∷ g ∷ h ∷ front) back whole =
     let fewer : length front % 8 ≡ 0 = omega (arith, whole) in

@@ -1,5 +1,6 @@
 -- Bytes as pieces of one length, one behind the other.
-use Rattle.std.proofs.Common.{◌≡◌, ℕ, zero, suc, ◌+◌, ◌*◌, ◌<◌, List, [], ◌++◌, length, get_or, take, drop, sym, ap, ◌∙◌, arith}
+use Rattle.std.proofs.Common.{◌≡◌, ℕ, zero, suc, ◌+◌, ◌*◌, ◌<◌, List, [], ◌++◌, length, get_or, take, drop, sym, ap}
+use Rattle.std.proofs.Common.{◌∙◌, arith}
 use Rattle.std.specs.List.{concat}
 use Rattle.std.specs.Simd.{first_chunks}
 use Rattle.std.proofs.Math.Seq.{take-add, drop-cons}
@@ -13,7 +14,8 @@ concat_chunks n (suc k) bytes =
     ∙ ap (λ (m : ℕ). take m bytes) e
 
 -- the pieces from piece i on
-pub concat-drop : (pieces : List (List ℕ)) (i : ℕ) → i < length pieces → concat (drop i pieces) ≡ get_or pieces i [] ++ concat (drop (i + 1) pieces)
+pub concat-drop : (pieces : List (List ℕ)) (i : ℕ) → i < length pieces
+    → concat (drop i pieces) ≡ get_or pieces i [] ++ concat (drop (i + 1) pieces)
 concat-drop pieces i lt =
     let next : suc i ≡ i + 1 = omega arith in
     ap concat (drop-cons pieces i [] lt) ∙ ap (λ (j : ℕ). get_or pieces i [] ++ concat (drop j pieces)) next

@@ -27,13 +27,16 @@ commute_plus p q r linear cp cq v =
 -- what stands between goes
 xor_between : (a b c : ℕ) → bit_xor (bit_xor a b) (bit_xor b c) ≡ bit_xor a c
 xor_between a b c =
-    xor_assoc a b (bit_xor b c) ∙ ap (λ (x : ℕ). bit_xor a x) (sym (xor_assoc b b c) ∙ ap (λ (x : ℕ). bit_xor x c) (xor_self b) ∙ xor_zero_l c)
+    xor_assoc a b (bit_xor b c) ∙ ap (λ (x : ℕ). bit_xor a x)
+    (sym (xor_assoc b b c) ∙ ap (λ (x : ℕ). bit_xor x c) (xor_self b) ∙ xor_zero_l c)
 
 -- the square of a sum is the sum of the squares
-square : (p q : ℕ → ℕ) → IsLinear p → IsLinear q → Commute p q → (v : ℕ) → plus p q (plus p q v) ≡ bit_xor (p (p v)) (q (q v))
+square : (p q : ℕ → ℕ) → IsLinear p → IsLinear q → Commute p q → (v : ℕ)
+    → plus p q (plus p q v) ≡ bit_xor (p (p v)) (q (q v))
 square p q lp lq commute v =
     ap (λ (x : ℕ). bit_xor x (q (bit_xor (p v) (q v)))) (lp (p v) (q v))
-    ∙ ap (λ (x : ℕ). bit_xor (bit_xor (p (p v)) (p (q v))) x) (lq (p v) (q v) ∙ ap (λ (x : ℕ). bit_xor x (q (q v))) (sym (commute v)))
+    ∙ ap (λ (x : ℕ). bit_xor (bit_xor (p (p v)) (p (q v))) x)
+    (lq (p v) (q v) ∙ ap (λ (x : ℕ). bit_xor x (q (q v))) (sym (commute v)))
     ∙ xor_between (p (p v)) (p (q v)) (q (q v))
 
 -- the sum of the powers a, b, c and 0
@@ -64,11 +67,13 @@ squared a b c v =
     ∙ ap (λ (x : ℕ). bit_xor (bit_xor (p (p v)) (q (q v))) x) (square r id lr li (λ x. refl) v)
     ∙ ap (λ (x : ℕ). bit_xor (bit_xor x (q (q v))) (bit_xor (r (r v)) v)) (after_bits-add a a v)
     ∙ ap (λ (x : ℕ). bit_xor (bit_xor (after_bits (a + a) v) x) (bit_xor (r (r v)) v)) (after_bits-add b b v)
-    ∙ ap (λ (x : ℕ). bit_xor (bit_xor (after_bits (a + a) v) (after_bits (b + b) v)) (bit_xor x v)) (after_bits-add c c v)
+    ∙ ap (λ (x : ℕ). bit_xor (bit_xor (after_bits (a + a) v) (after_bits (b + b) v)) (bit_xor x v))
+    (after_bits-add c c v)
 
 doubled : (n a b c : ℕ) → Rule n a b c → Rule (n + n) (a + a) (b + b) (c + c)
 doubled n a b c rule v lt =
-    sym (after_bits-add n n v) ∙ rule (after_bits n v) (after_bits-lt n v lt) ∙ ap (powers a b c) (rule v lt) ∙ squared a b c v
+    sym (after_bits-add n n v) ∙ rule (after_bits n v) (after_bits-lt n v lt) ∙ ap (powers a b c) (rule v lt)
+    ∙ squared a b c v
 
 powers-linear : (a b c : ℕ) → IsLinear (powers a b c)
 powers-linear a b c =
@@ -98,9 +103,12 @@ rule_64 v lt =
     let f = after_bits 64 in
     let g = powers 4 3 1 in
     same_below f g (after_bits-xor 64) (powers-linear 4 3 1) 64
-    (agree_more f g 48 16 (agree_more f g 32 16 (agree_more f g 16 16 (agree_more f g 0 16 (λ i h. absurd (omega arith)) rule_test_0) rule_test_16) rule_test_32) rule_test_48)
+    (agree_more f g 48 16 (agree_more f g 32 16
+    (agree_more f g 16 16 (agree_more f g 0 16 (λ i h. absurd (omega arith)) rule_test_0) rule_test_16)
+    rule_test_32) rule_test_48)
     v lt
 
 pub rule_4096 : Rule 4096 256 192 64
 rule_4096 =
-    doubled 2048 128 96 32 (doubled 1024 64 48 16 (doubled 512 32 24 8 (doubled 256 16 12 4 (doubled 128 8 6 2 (doubled 64 4 3 1 rule_64)))))
+    doubled 2048 128 96 32 (doubled 1024 64 48 16
+    (doubled 512 32 24 8 (doubled 256 16 12 4 (doubled 128 8 6 2 (doubled 64 4 3 1 rule_64)))))

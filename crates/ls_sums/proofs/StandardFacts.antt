@@ -23,7 +23,8 @@ sums_of_two_words : after_words start (words Big (0 ∷ 0 ∷ 0 ∷ 1 ∷ 0 ∷ 
 unfolding start
 sums_of_two_words = refl
 
-sums_of_two_little_words : after_words start (words Little (0 ∷ 0 ∷ 0 ∷ 1 ∷ 0 ∷ 0 ∷ 0 ∷ 2 ∷ [])) ≡ record { s0 = 0x100_0000; s1 = 0x300_0000 }
+sums_of_two_little_words : after_words start (words Little (0 ∷ 0 ∷ 0 ∷ 1 ∷ 0 ∷ 0 ∷ 0 ∷ 2 ∷ [])) ≡ record
+    { s0 = 0x100_0000; s1 = 0x300_0000 }
 unfolding start
 sums_of_two_little_words = refl
 
@@ -41,7 +42,8 @@ sums_of_log_header = refl
 
 -- of three pages the second is the lock page
 lock_page_left_out : (a b c : List ℕ) → sums_from 2 1 (a ∷ b ∷ c ∷ []) ≡ bit_xor (page_sum 1 a) (page_sum 3 c)
-lock_page_left_out a b c = ap (bit_xor (page_sum 1 a)) (xor_zero_l (bit_xor (page_sum 3 c) 0) ∙ xor_zero_r (page_sum 3 c))
+lock_page_left_out a b c = ap (bit_xor (page_sum 1 a))
+    (xor_zero_l (bit_xor (page_sum 3 c) 0) ∙ xor_zero_r (page_sum 3 c))
 
 -- no page
 rest_of_nothing : rest_sum 4096 [] ≡ 0x8000_0000_0000_0000

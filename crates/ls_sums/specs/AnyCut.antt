@@ -15,4 +15,5 @@ RegisterOfPieces =
 abbrev pub SumsOfPieces : Type 0
 SumsOfPieces =
     (order : Order) (sum : WalSum) (front back : List ℕ) → length front % 8 ≡ 0
-    → after_words (after_words sum (words order front)) (words order back) ≡ after_words sum (words order (front ++ back))
+    → after_words (after_words sum (words order front)) (words order back) ≡ after_words sum
+    (words order (front ++ back))

@@ -51,7 +51,8 @@ fn ring_of(register: u64) -> [u64; 64]
 /// Takes the blocks into the ring.
 fn take_blocks(ring: &mut [u64], blocks: &[[[u8; 8]; 64]])
     requires { length ring.old ≡ 64 }
-    ensures { (register : ℕ) → Holds ring.old register → Holds ring.new (after_bytes register (flat_map concat blocks.now)) }
+    ensures { (register : ℕ) → Holds ring.old register
+        → Holds ring.new (after_bytes register (flat_map concat blocks.now)) }
 {
     for block in blocks {
         take_block(ring, block);

@@ -1,5 +1,6 @@
 -- Digits of a text.
-use Rattle.std.proofs.Common.{◌≡◌, ℕ, zero, suc, ◌+◌, ◌-◌, ◌*◌, ◌^◌, ◌<◌, ◌≤◌, true, ◌&&◌, List, [], ◌∷◌, length, get_or, take, refl, sym, ap, ◌∙◌, add-one, arith}
+use Rattle.std.proofs.Common.{◌≡◌, ℕ, zero, suc, ◌+◌, ◌-◌, ◌*◌, ◌^◌, ◌<◌, ◌≤◌, true, ◌&&◌, List, [], ◌∷◌, length}
+use Rattle.std.proofs.Common.{get_or, take, refl, sym, ap, ◌∙◌, add-one, arith}
 use Rattle.std.specs.Char.{is_ascii_digit}
 use Rattle.std.specs.Int.{IsInRange}
 use Rattle.std.specs.Str.{all_ascii_digits}
@@ -17,7 +18,8 @@ same_digits (c ∷ cs) = ap (λ b. is_ascii_digit c && b) (same_digits cs)
 tells_digits : IsDigitsTest (λ ds. all_digits ds ≡ true)
 tells_digits = record {
   empty = refl;
-  parts = λ c cs h. (let p = tells_all_ascii_digits.parts c cs (same_digits (c ∷ cs) ∙ h) in (p.0, sym (same_digits cs) ∙ p.1));
+  parts = λ c cs h. (let p = tells_all_ascii_digits.parts c cs (same_digits (c ∷ cs) ∙ h) in
+      (p.0, sym (same_digits cs) ∙ p.1));
   more = λ c cs is h. (sym (same_digits (c ∷ cs)) ∙ tells_all_ascii_digits.more c cs is (same_digits cs ∙ h));
 }
 
@@ -32,7 +34,8 @@ digit_of (c ∷ cs) zero all lt = (tells_digits.parts c cs all).0
 digit_of (c ∷ cs) (suc i) all lt = digit_of cs i (tells_digits.parts c cs all).1 (omega arith)
 
 -- one more digit
-pub value_more : (ds : List ℕ) (i : ℕ) → i < length ds → IsInRange 48 57 (get_or ds i 0) → digits_value 10 (take (i + 1) ds) ≡ digits_value 10 (take i ds) * 10 + (get_or ds i 0 - 48)
+pub value_more : (ds : List ℕ) (i : ℕ) → i < length ds → IsInRange 48 57 (get_or ds i 0)
+    → digits_value 10 (take (i + 1) ds) ≡ digits_value 10 (take i ds) * 10 + (get_or ds i 0 - 48)
 value_more ds i lt is =
     let e = digit_value_digit (get_or ds i 0) is in
     digits_value_more 10 ds i lt ∙ ap (λ d. digits_value 10 (take i ds) * 10 + d) (omega arith)

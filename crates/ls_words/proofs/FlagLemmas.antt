@@ -12,6 +12,8 @@ no_dash [] none = refl
 no_dash (c ∷ cs) none = let other : eqb c 45 ≡ false = ne_eqb c 45 (λ e. none cs (ap (λ d. d ∷ cs) e)) in rw other refl
 
 -- what a search for a dash in front leaves
-pub without-from_strip : (word : List ℕ) (r : Option (Bor (List ℕ))) (whole : Bor (List ℕ)) → MatchOption r ((rest : List ℕ) → word ≢ 45 ∷ rest) (λ x. word ≡ 45 ∷ x.now) → whole.now ≡ word → (unwrap_or r whole).now ≡ without_dash word
+pub without-from_strip : (word : List ℕ) (r : Option (Bor (List ℕ))) (whole : Bor (List ℕ))
+    → MatchOption r ((rest : List ℕ) → word ≢ 45 ∷ rest) (λ x. word ≡ 45 ∷ x.now) → whole.now ≡ word
+    → (unwrap_or r whole).now ≡ without_dash word
 without-from_strip word None whole strips is = is ∙ no_dash word strips
 without-from_strip word (Some x) whole strips is = dash_first word x.now strips

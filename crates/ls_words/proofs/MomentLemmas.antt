@@ -1,5 +1,6 @@
 -- Days and moments.
-use Rattle.std.proofs.Common.{◌≡◌, ℕ, ◌<◌, ◌≤◌, Bool, true, false, leb, Option, Some, None, Result, Ok, Err, refl, ◌∙◌, arith, pos, w8, w16}
+use Rattle.std.proofs.Common.{◌≡◌, ℕ, ◌<◌, ◌≤◌, Bool, true, false, leb, Option, Some, None, Result, Ok, Err, refl, ◌∙◌}
+use Rattle.std.proofs.Common.{arith, pos, w8, w16}
 use Rattle.std.specs.Prelude.{IsOk, IfOk}
 use Rattle.std.specs.Result.{result_ok}
 use Rattle.std.proofs.lemmas.Bool.{and_from, and_parts, le-leb, leb-true, false≢true}
@@ -19,12 +20,16 @@ within_parts : (low high n : ℕ) → is_within low high n ≡ true → (low ≤
 unfolding is_within
 within_parts low high n e = let p = and_parts (leb low n) (leb n high) e in (leb-true low n p.0, leb-true n high p.1)
 
-date-from_test : (year month day : ℕ) → year < 10000 → is_date year month day ≡ true → IsDate (pos year) (pos month) (pos day)
+date-from_test : (year month day : ℕ) → year < 10000 → is_date year month day ≡ true
+    → IsDate (pos year) (pos month) (pos day)
 date-from_test year month day small e =
     let p = and_parts (is_within 1 12 month) (is_within 1 (days_in_month (pos year) month) day) e in
     let m = within_parts 1 12 month p.0 in
-    let d = within_parts 1 (days_in_month (pos year) month) day p.1 in
-    ((omega (arith, ints), omega (arith, ints)), (omega (arith, ints), omega (arith, ints)), (omega (arith, ints), omega (arith, ints)))
+    let d = within_parts 1 (days_in_month (pos year) month) day p.1 in (
+      (omega (arith, ints), omega (arith, ints)),
+      (omega (arith, ints), omega (arith, ints)),
+      (omega (arith, ints), omega (arith, ints)),
+    )
 
 test-from_date : (year month day : ℕ) → IsDate (pos year) (pos month) (pos day) → is_date year month day ≡ true
 test-from_date year month day is =
@@ -46,18 +51,31 @@ false_from true h = absurd (h refl)
 false_from false h = refl
 
 -- a date that the calendar lacks, with its parts as the code casts them
-pub no_day : {A E : Type 0} (r : Result A E) (year month day : ℕ) → year < 10000 → month < 100 → day < 100 → (IsDate (to_z w16 year) (to_z w8 month) (to_z w8 day) → IsOk r) → result_ok r ≡ None → None ≡ day_number year month day
+pub no_day : {A E : Type 0} (r : Result A E) (year month day : ℕ) → year < 10000 → month < 100 → day < 100
+    → (IsDate (to_z w16 year) (to_z w8 month) (to_z w8 day) → IsOk r) → result_ok r ≡ None
+    → None ≡ day_number year month day
 unfolding day_number
 no_day r year month day y m d makes none =
-    let lacks : is_date year month day ≡ false = false_from (is_date year month day) (λ e. not_ok r none (makes (rw (to_z_pos w16 year (omega arith), to_z_pos w8 month (omega arith), to_z_pos w8 day (omega arith)) (date-from_test year month day y e)))) in
+    let lacks : is_date year month day ≡ false = false_from (is_date year month day)
+    (λ e. not_ok r none (makes (rw
+    (to_z_pos w16 year (omega arith), to_z_pos w8 month (omega arith), to_z_pos w8 day (omega arith))
+    (date-from_test year month day y e)))) in
     rw lacks refl
 
-parts : (date : Date) (year month day : ℕ) → year < 10000 → month < 100 → day < 100 → IsYmd (to_z w16 year) (to_z w8 month) (to_z w8 day) date → (date.year ≡ pos year) × (date.month ≡ month) × (date.day ≡ day)
-parts date year month day y m d is =
-    (is.0 ∙ to_z_pos w16 year (omega arith), pos_same _ _ (is.1 ∙ to_z_pos w8 month (omega arith)), pos_same _ _ (is.2 ∙ to_z_pos w8 day (omega arith)))
+parts : (date : Date) (year month day : ℕ) → year < 10000 → month < 100 → day < 100
+    → IsYmd (to_z w16 year) (to_z w8 month) (to_z w8 day) date → (date.year ≡ pos year) × (date.month ≡ month)
+    × (date.day ≡ day)
+parts date year month day y m d is = (
+  is.0 ∙ to_z_pos w16 year (omega arith),
+  pos_same _ _ (is.1 ∙ to_z_pos w8 month (omega arith)),
+  pos_same _ _
+      (is.2 ∙ to_z_pos w8 day (omega arith)),
+)
 
 -- and one that it has
-pub some_day : {E : Type 0} (r : Result Date E) (date : Date) (year month day : ℕ) → year < 10000 → month < 100 → day < 100 → (IsOk r → IsDate (to_z w16 year) (to_z w8 month) (to_z w8 day)) → IfOk r (IsYmd (to_z w16 year) (to_z w8 month) (to_z w8 day))
+pub some_day : {E : Type 0} (r : Result Date E) (date : Date) (year month day : ℕ) → year < 10000 → month < 100
+    → day < 100 → (IsOk r → IsDate (to_z w16 year) (to_z w8 month) (to_z w8 day))
+    → IfOk r (IsYmd (to_z w16 year) (to_z w8 month) (to_z w8 day))
     → result_ok r ≡ Some date → Some (days_from_civil date.year date.month date.day) ≡ day_number year month day
 unfolding day_number
 some_day (Err e) date year month day y m d has value some = absurd cc
@@ -65,6 +83,7 @@ some_day (Ok x) date year month day y m d has value some =
     let same : ◌≡◌ {A = Date} x date = some_same x date some in
     let p = parts x year month day y m d value in
     let is = has refl in
-    let dated : IsDate (pos year) (pos month) (pos day) = rw (to_z_pos w16 year (omega arith), to_z_pos w8 month (omega arith), to_z_pos w8 day (omega arith)) at is in
+    let dated : IsDate (pos year) (pos month) (pos day) =
+    rw (to_z_pos w16 year (omega arith), to_z_pos w8 month (omega arith), to_z_pos w8 day (omega arith)) at is in
     let holds : is_date year month day ≡ true = test-from_date year month day dated in
     rw (holds, ← same, p.0, p.1, p.2) refl

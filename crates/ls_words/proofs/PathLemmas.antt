@@ -1,5 +1,6 @@
 -- Texts cut at their last `/`, and texts that hold `://`.
-use Rattle.std.proofs.Common.{◌≡◌, ◌≢◌, ℕ, suc, ◌<◌, true, false, eqb, List, [], ◌∷◌, ◌++◌, length, get_or, take, drop, Option, Some, None, refl, sym, ap, ◌∙◌, inl, inr, arith, Bor}
+use Rattle.std.proofs.Common.{◌≡◌, ◌≢◌, ℕ, suc, ◌<◌, true, false, eqb, List, [], ◌∷◌, ◌++◌, length, get_or, take, drop}
+use Rattle.std.proofs.Common.{Option, Some, None, refl, sym, ap, ◌∙◌, inl, inr, arith, Bor}
 use Rattle.std.specs.Prelude.{MatchOption, nat_eq, codes}
 use Rattle.std.specs.List.{starts_with}
 use Rattle.std.specs.Str.{NoCharPasses}
@@ -30,22 +31,28 @@ cut_there [] b lacks = ap (last_cut 47 b) (cut_nowhere b lacks)
 cut_there (c ∷ a) b lacks = ap (last_cut c (a ++ 47 ∷ b)) (cut_there a b lacks)
 
 -- a text in which no `/` was found isn't cut
-pub cut-from_none : (path : List ℕ) (r : Option (Bor (List ℕ) × Bor (List ℕ))) → MatchOption r (RFindsChar 47 path None) (λ x. SplitsAroundMatch (RFindsChar 47) path x.0.now x.1.now)
+pub cut-from_none : (path : List ℕ) (r : Option (Bor (List ℕ) × Bor (List ℕ)))
+    → MatchOption r (RFindsChar 47 path None) (λ x. SplitsAroundMatch (RFindsChar 47) path x.0.now x.1.now)
     → ((x : Bor (List ℕ) × Bor (List ℕ)) → r ≢ Some x) → cut_at_last_slash path ≡ None
 cut-from_none path None found not_some = cut_nowhere path (lacks_slash path found)
 cut-from_none path (Some x) found not_some = absurd (not_some x refl)
 
 -- and one in which the last was found is cut there
-pub cut-from_some : (path front back : List ℕ) → SplitsAroundMatch (RFindsChar 47) path front back → cut_at_last_slash path ≡ Some (record { folder = front; name = back })
+pub cut-from_some : (path front back : List ℕ) → SplitsAroundMatch (RFindsChar 47) path front back
+    → cut_at_last_slash path ≡ Some (record { folder = front; name = back })
 cut-from_some path front back (i, j, found, front-is, back-is, _, _, _) =
-    let whole : path ≡ take i path ++ 47 ∷ drop j path = sym (take-append-drop i path) ∙ ap (λ rest. take i path ++ rest) (drop_at_char 47 path i j found.1 (omega arith)) in
-    ap cut_at_last_slash whole ∙ cut_there (take i path) (drop j path) (lacks_slash (drop j path) found.0) ∙ rw (front-is, back-is) refl
+    let whole : path ≡ take i path ++ 47 ∷ drop j path = sym (take-append-drop i path)
+    ∙ ap (λ rest. take i path ++ rest) (drop_at_char 47 path i j found.1 (omega arith)) in
+    ap cut_at_last_slash whole ∙ cut_there (take i path) (drop j path) (lacks_slash (drop j path) found.0)
+    ∙ rw (front-is, back-is) refl
 
-name_cut : (path folder name : List ℕ) → cut_at_last_slash path ≡ Some (record { folder = folder; name = name }) → name ≡ (placed path (cut_at_last_slash path)).name
+name_cut : (path folder name : List ℕ) → cut_at_last_slash path ≡ Some (record { folder = folder; name = name })
+    → name ≡ (placed path (cut_at_last_slash path)).name
 name_cut path folder name e = rw e refl
 
 -- the name behind the last `/`
-pub name_behind : (path front back : List ℕ) → SplitsAroundMatch (RFindsChar 47) path front back → back ≡ (placed path (cut_at_last_slash path)).name
+pub name_behind : (path front back : List ℕ) → SplitsAroundMatch (RFindsChar 47) path front back
+    → back ≡ (placed path (cut_at_last_slash path)).name
 name_behind path front back splits = name_cut path front back (cut-from_some path front back splits)
 
 -- and of a path without `/`, where the code has no such name
@@ -63,6 +70,12 @@ pub slice-from_named : (s : List ℕ) → names_scheme s ≡ true → HasSubslic
 slice-from_named [] e = absurd cc
 slice-from_named (c ∷ cs) e =
     elim (or_cases (starts_with nat_eq (c ∷ cs) (codes "://")) (names_scheme cs) e) [
-      | inl here ↦ ([], drop 3 (c ∷ cs), sym (take-append-drop 3 (c ∷ cs)) ∙ ap (λ front. front ++ drop 3 (c ∷ cs)) (sym ((bytes_eq-Decides (58 ∷ 47 ∷ 47 ∷ []) (take 3 (c ∷ cs))).0 here)))
+      | inl here ↦ (
+        [],
+        drop 3 (c ∷ cs),
+        sym (take-append-drop 3 (c ∷ cs))
+            ∙ ap (λ front. front ++ drop 3 (c ∷ cs))
+            (sym ((bytes_eq-Decides (58 ∷ 47 ∷ 47 ∷ []) (take 3 (c ∷ cs))).0 here)),
+      )
       | inr later ↦ let rest = slice-from_named cs later in (c ∷ rest.0, rest.1, ap (λ t. c ∷ t) rest.2)
     ]

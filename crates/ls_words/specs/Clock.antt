@@ -1,5 +1,6 @@
 -- Times of day in a text, in RFC 3339's form.
-use Rattle.std.specs.Prelude.{ℕ, ◌+◌, ◌*◌, Bool, ◌&&◌, ◌||◌, ◌==◌, if◌then◌else◌, List, slice_index, slice_range, Option, Some, None, option_and_then, nat_le}
+use Rattle.std.specs.Prelude.{ℕ, ◌+◌, ◌*◌, Bool, ◌&&◌, ◌||◌, ◌==◌, if◌then◌else◌, List, slice_index, slice_range}
+use Rattle.std.specs.Prelude.{Option, Some, None, option_and_then, nat_le}
 use Rattle.ls_words.specs.Digit.{decimal_of}
 
 infixl 10 ◌>>=◌
@@ -26,4 +27,5 @@ unfoldable pub second_of : List ℕ → Option ℕ
 second_of text = do
   minutes ← clock_at 11 text
   second ← digits_at 17 2 text
-  only (((slice_index text 10 == 84) || (slice_index text 10 == 116)) && ((slice_index text 16 == 58) && nat_le second 59)) (minutes * 60 + second)
+  only (((slice_index text 10 == 84) || (slice_index text 10 == 116)) &&
+      ((slice_index text 16 == 58) && nat_le second 59)) (minutes * 60 + second)

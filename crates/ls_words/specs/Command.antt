@@ -55,9 +55,12 @@ command_from verb words first settings =
 
 -- what the flags and the plain words of a command ask for
 abbrev pub command_with : Verb → List (List ℕ) → List (List ℕ) → Result Command Usage
-command_with verb words rest = result_then (flags_of verb rest) (λ flagged. command_from verb words flagged.first flagged.settings)
+command_with verb words rest = result_then (flags_of verb rest)
+    (λ flagged. command_from verb words flagged.first flagged.settings)
 
--- the command that words ask for, or their first fault with the index of its word: the first word names it, and flags and then plain words follow
+-- the command that words ask for, or their first fault with the index of its word: the first word names it, and flags
+-- and then plain words follow
 abbrev pub command_of : List (List ℕ) → Result Command Usage
 command_of [] = refusal 0 NoCommand
-command_of (word ∷ rest) = result_then (or_fault 0 UnknownCommand (verb_of word)) (λ verb. command_with verb (word ∷ rest) rest)
+command_of (word ∷ rest) = result_then (or_fault 0 UnknownCommand (verb_of word))
+    (λ verb. command_with verb (word ∷ rest) rest)

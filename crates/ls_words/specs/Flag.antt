@@ -5,7 +5,8 @@ use Rattle.ls_words.specs.declared.verb.Verb.TheVariants.{Replicate, Restore, Lt
 use Rattle.ls_words.specs.declared.flag.Flag.{Flag}
 use Rattle.ls_words.specs.declared.flag.Flag.TheVariants.{Truth, Valued}
 use Rattle.ls_words.specs.declared.flag.TruthFlag.TheVariants.{AtRest, IfDbNotExists, IfReplicaExists}
-use Rattle.ls_words.specs.declared.flag.ValuedFlag.TheVariants.{Rounds, Retention, Output, Txid, Timestamp, Seed, DemoRounds}
+use Rattle.ls_words.specs.declared.flag.ValuedFlag.TheVariants.{Rounds, Retention, Output, Txid, Timestamp, Seed}
+use Rattle.ls_words.specs.declared.flag.ValuedFlag.TheVariants.{DemoRounds}
 
 -- the flags of `replicate`
 abbrev pub replicate_flag : List ℕ → Option Flag

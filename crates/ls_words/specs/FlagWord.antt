@@ -1,5 +1,6 @@
 -- One word as a flag: as Go's package flag reads it.
-use Rattle.std.specs.Prelude.{ℕ, Bool, ◌&&◌, ◌||◌, ◌==◌, if◌then◌else◌, List, [], ◌∷◌, length, codes, slice_index, Option, Some, None, nat_lt, nat_le, bytes_eq}
+use Rattle.std.specs.Prelude.{ℕ, Bool, ◌&&◌, ◌||◌, ◌==◌, if◌then◌else◌, List, [], ◌∷◌, length, codes, slice_index}
+use Rattle.std.specs.Prelude.{Option, Some, None, nat_lt, nat_le, bytes_eq}
 use Rattle.std.specs.List.{position_or_len, before_first, after_first}
 
 -- a flag's name as it is written, and the value behind its `=`, where it has one
@@ -31,7 +32,8 @@ is_equals c = c == 61
 -- a text cut at its first `=`, where it has one
 abbrev pub cut_at_equals : List ℕ → Named
 cut_at_equals text =
-    if nat_lt (position_or_len is_equals text) (length text) then record { name = before_first is_equals text; value = Some (after_first is_equals text) }
+    if nat_lt (position_or_len is_equals text) (length text) then record
+    { name = before_first is_equals text; value = Some (after_first is_equals text) }
     else record { name = text; value = None }
 
 -- no flag: nothing, or what begins with `-` or `=`

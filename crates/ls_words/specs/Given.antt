@@ -28,7 +28,8 @@ value_at at (Valued flag) None rest = next_word at (Valued flag) rest
 
 -- the flag of a command that a word names, with its value
 abbrev pub named_at : Verb → ℕ → List (List ℕ) → Named → Result Given Usage
-named_at verb at rest named = result_then (or_fault at UnknownFlag (flag_of verb named.name)) (λ flag. value_at at flag named.value rest)
+named_at verb at rest named = result_then (or_fault at UnknownFlag (flag_of verb named.name))
+    (λ flag. value_at at flag named.value rest)
 
 -- the flag that a word and the words behind it give
 unfoldable pub given_at : Verb → ℕ → List ℕ → List (List ℕ) → Result Given Usage

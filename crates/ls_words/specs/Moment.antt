@@ -1,5 +1,7 @@
 -- Moments: RFC 3339's form, with the days of the proleptic Gregorian calendar.
-use Rattle.std.specs.Prelude.{ℕ, ◌+◌, ◌*◌, ◌/◌, ◌^◌, Bool, ◌&&◌, ◌||◌, ◌==◌, if◌then◌else◌, List, length, drop, codes, slice_index, Option, Some, None, option_map, nat_lt, bytes_eq, ℤ, pos, neg_ℤ, ◌+ℤ◌, ◌-ℤ◌, ◌*ℤ◌}
+use Rattle.std.specs.Prelude.{ℕ, ◌+◌, ◌*◌, ◌/◌, ◌^◌, Bool, ◌&&◌, ◌||◌, ◌==◌, if◌then◌else◌, List, length, drop, codes}
+use Rattle.std.specs.Prelude.{slice_index, Option, Some, None, option_map, nat_lt, bytes_eq, ℤ, pos, neg_ℤ, ◌+ℤ◌, ◌-ℤ◌}
+use Rattle.std.specs.Prelude.{◌*ℤ◌}
 use Rattle.std.specs.Char.{is_ascii_digit}
 use Rattle.std.specs.List.{prefix_len}
 use Rattle.jiff_core.specs.Calendar.{days_in_month, days_from_civil}
@@ -33,7 +35,8 @@ fraction_with count written = record { ms = written * 1000 / 10 ^ count; len = c
 
 -- the fraction of a point and so many digits, 1 to 9
 unfoldable pub fraction_behind : ℕ → List ℕ → Option Fraction
-fraction_behind count rest = if is_within 1 9 count then option_map (fraction_with count) (digits_at 1 count rest) else None
+fraction_behind count rest = if is_within 1 9 count then option_map (fraction_with count) (digits_at 1 count rest)
+    else None
 
 -- the fraction at the front: nothing, or a point and all the digits behind it
 unfoldable pub fraction_of : List ℕ → Option Fraction
@@ -43,7 +46,8 @@ fraction_of rest =
 
 -- the offset that a sign gives to minutes
 abbrev pub signed : ℕ → ℕ → Option ℤ
-signed sign minutes = if sign == 43 then Some (pos minutes) else (if sign == 45 then Some (neg_ℤ (pos minutes)) else None)
+signed sign minutes = if sign == 43 then Some (pos minutes)
+    else (if sign == 45 then Some (neg_ℤ (pos minutes)) else None)
 
 -- the offset from UTC in minutes: Z, z, +HH:MM or -HH:MM
 unfoldable pub offset_of : List ℕ → Option ℤ

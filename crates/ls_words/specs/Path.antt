@@ -1,5 +1,6 @@
 -- Paths, and words that name a scheme. This project's rule.
-use Rattle.std.specs.Prelude.{ℕ, Bool, false, not, ◌||◌, ◌==◌, if◌then◌else◌, List, [], ◌∷◌, length, codes, Option, Some, None, nat_eq, bytes_eq}
+use Rattle.std.specs.Prelude.{ℕ, Bool, false, not, ◌||◌, ◌==◌, if◌then◌else◌, List, [], ◌∷◌, length, codes, Option}
+use Rattle.std.specs.Prelude.{Some, None, nat_eq, bytes_eq}
 use Rattle.std.specs.List.{starts_with}
 
 -- a folder and a name in it

@@ -1,5 +1,6 @@
 -- The plain words behind the flags. This project's rule.
-use Rattle.std.specs.Prelude.{ℕ, ◌+◌, ◌-◌, ◌==◌, if◌then◌else◌, List, length, drop, codes, Result, Ok, Err, nat_eq, nat_lt}
+use Rattle.std.specs.Prelude.{ℕ, ◌+◌, ◌-◌, ◌==◌, if◌then◌else◌, List, length, drop, codes, Result, Ok, Err, nat_eq}
+use Rattle.std.specs.Prelude.{nat_lt}
 use Rattle.std.specs.List.{starts_with}
 use Rattle.ls_words.specs.declared.usage.Usage.{Usage}
 use Rattle.ls_words.specs.declared.usage.UsageWhy.{UsageWhy}
@@ -7,7 +8,8 @@ use Rattle.ls_words.specs.declared.usage.UsageWhy.TheVariants.{BadPath, RemoteSt
 use Rattle.ls_words.specs.Fault.{refusal}
 use Rattle.ls_words.specs.Path.{names_scheme}
 
--- of `count` words those from `first` on are plain; too few miss a word behind the last, and of too many the first too many is refused
+-- of `count` words those from `first` on are plain; too few miss a word behind the last, and of too many the first
+-- too many is refused
 unfoldable pub counted : ℕ → ℕ → ℕ → Result (Unit {0}) Usage
 counted count first takes =
     if nat_lt (count - first) takes then refusal count MissingWord

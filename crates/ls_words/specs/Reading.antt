@@ -1,6 +1,7 @@
 -- The flags as the code reads them: one after the other, each value at once. That this gives what the definitions
 -- of settings give is proved in proofs/.
-use Rattle.std.specs.Prelude.{ℕ, ◌+◌, ◌-◌, ◌^◌, Bool, true, false, not, if◌then◌else◌, List, [], ◌∷◌, Option, Some, None, Result, Ok, nat_lt}
+use Rattle.std.specs.Prelude.{ℕ, ◌+◌, ◌-◌, ◌^◌, Bool, true, false, not, if◌then◌else◌, List, [], ◌∷◌, Option, Some}
+use Rattle.std.specs.Prelude.{None, Result, Ok, nat_lt}
 use Rattle.ls_base.specs.Txid.{txid_of}
 use Rattle.ls_words.specs.declared.verb.Verb.{Verb}
 use Rattle.ls_words.specs.declared.flag.Flag.{Flag}
@@ -8,11 +9,13 @@ use Rattle.ls_words.specs.declared.flag.Flag.TheVariants.{Truth, Valued}
 use Rattle.ls_words.specs.declared.flag.TruthFlag.{TruthFlag}
 use Rattle.ls_words.specs.declared.flag.TruthFlag.TheVariants.{AtRest, IfDbNotExists, IfReplicaExists}
 use Rattle.ls_words.specs.declared.flag.ValuedFlag.{ValuedFlag}
-use Rattle.ls_words.specs.declared.flag.ValuedFlag.TheVariants.{Rounds, Retention, Output, Txid, Timestamp, Seed, DemoRounds}
+use Rattle.ls_words.specs.declared.flag.ValuedFlag.TheVariants.{Rounds, Retention, Output, Txid, Timestamp, Seed}
+use Rattle.ls_words.specs.declared.flag.ValuedFlag.TheVariants.{DemoRounds}
 use Rattle.ls_words.specs.declared.settings.Settings.{Settings}
 use Rattle.ls_words.specs.declared.usage.Usage.{Usage}
 use Rattle.ls_words.specs.declared.usage.UsageWhy.{UsageWhy}
-use Rattle.ls_words.specs.declared.usage.UsageWhy.TheVariants.{BadTruth, BadNumber, BadTxid, BadMoment, BadDuration, BadPath}
+use Rattle.ls_words.specs.declared.usage.UsageWhy.TheVariants.{BadTruth, BadNumber, BadTxid, BadMoment, BadDuration}
+use Rattle.ls_words.specs.declared.usage.UsageWhy.TheVariants.{BadPath}
 use Rattle.ls_words.specs.Fault.{or_fault, result_then}
 use Rattle.ls_words.specs.FlagWord.{is_flag, is_end}
 use Rattle.ls_words.specs.Given.{Given, given_at}
@@ -47,12 +50,16 @@ put word why read set = result_then (or_fault word why read) (λ x. Ok (set x))
 
 -- after a flag with a value
 abbrev pub with_value : ValuedFlag → List ℕ → ℕ → Settings → Result Settings Usage
-with_value Rounds text word settings = put word BadNumber (number_of 7 1 1000000 text) (λ n. record settings { rounds = n })
-with_value DemoRounds text word settings = put word BadNumber (number_of 4 1 1000 text) (λ n. record settings { rounds = n })
-with_value Seed text word settings = put word BadNumber (number_of 20 0 (2 ^ 64 - 1) text) (λ n. record settings { seed = n })
+with_value Rounds text word settings = put word BadNumber (number_of 7 1 1000000 text)
+    (λ n. record settings { rounds = n })
+with_value DemoRounds text word settings = put word BadNumber (number_of 4 1 1000 text)
+    (λ n. record settings { rounds = n })
+with_value Seed text word settings = put word BadNumber (number_of 20 0 (2 ^ 64 - 1) text)
+    (λ n. record settings { seed = n })
 with_value Retention text word settings = put word BadDuration (duration_of text) (λ ms. record settings { keep = ms })
 with_value Txid text word settings = put word BadTxid (txid_of text) (λ n. record settings { txid = Some n })
-with_value Timestamp text word settings = put word BadMoment (moment_of text) (λ ms. record settings { moment = Some ms })
+with_value Timestamp text word settings = put word BadMoment (moment_of text)
+    (λ ms. record settings { moment = Some ms })
 with_value Output text word settings = put word BadPath (path_of text) (λ path. record settings { output = Some path })
 
 -- after a flag
@@ -71,4 +78,5 @@ flagged verb at false settings (word ∷ rest) =
     if not (is_flag word) then Ok (record { settings = settings; first = at })
     else (if is_end word then Ok (record { settings = settings; first = at + 1 })
     else result_then (given_at verb at word rest)
-    (λ given. result_then (with_given given settings) (λ settings. flagged verb (at + 1) (nat_lt at given.word) settings rest)))
+    (λ given. result_then (with_given given settings)
+    (λ settings. flagged verb (at + 1) (nat_lt at given.word) settings rest)))

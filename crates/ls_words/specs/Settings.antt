@@ -1,5 +1,6 @@
 -- What flags set. The ranges and the defaults are this project's rule.
-use Rattle.std.specs.Prelude.{ℕ, ◌-◌, ◌^◌, Bool, false, List, [], ◌∷◌, Option, Some, None, Result, Ok, Err, option_map, unwrap_or, ℤ}
+use Rattle.std.specs.Prelude.{ℕ, ◌-◌, ◌^◌, Bool, false, List, [], ◌∷◌, Option, Some, None, Result, Ok, Err}
+use Rattle.std.specs.Prelude.{option_map, unwrap_or, ℤ}
 use Rattle.std.specs.Option.{option_or}
 use Rattle.ls_base.specs.Txid.{txid_of}
 use Rattle.ls_words.specs.declared.verb.Verb.{Verb}
@@ -7,11 +8,13 @@ use Rattle.ls_words.specs.declared.verb.Verb.TheVariants.{Demo}
 use Rattle.ls_words.specs.declared.flag.Flag.{Flag}
 use Rattle.ls_words.specs.declared.flag.Flag.TheVariants.{Truth, Valued}
 use Rattle.ls_words.specs.declared.flag.TruthFlag.TheVariants.{AtRest, IfDbNotExists, IfReplicaExists}
-use Rattle.ls_words.specs.declared.flag.ValuedFlag.TheVariants.{Rounds, Retention, Output, Txid, Timestamp, Seed, DemoRounds}
+use Rattle.ls_words.specs.declared.flag.ValuedFlag.TheVariants.{Rounds, Retention, Output, Txid, Timestamp, Seed}
+use Rattle.ls_words.specs.declared.flag.ValuedFlag.TheVariants.{DemoRounds}
 use Rattle.ls_words.specs.declared.settings.Settings.{Settings}
 use Rattle.ls_words.specs.declared.usage.Usage.{Usage}
 use Rattle.ls_words.specs.declared.usage.UsageWhy.{UsageWhy}
-use Rattle.ls_words.specs.declared.usage.UsageWhy.TheVariants.{BadTruth, BadNumber, BadTxid, BadMoment, BadDuration, BadPath}
+use Rattle.ls_words.specs.declared.usage.UsageWhy.TheVariants.{BadTruth, BadNumber, BadTxid, BadMoment, BadDuration}
+use Rattle.ls_words.specs.declared.usage.UsageWhy.TheVariants.{BadPath}
 use Rattle.ls_words.specs.Given.{Given}
 use Rattle.ls_words.specs.Moment.{moment_of}
 use Rattle.ls_words.specs.Path.{path_of}
@@ -108,10 +111,12 @@ value_fault (Valued Timestamp) text = refused BadMoment (moment_of text)
 abbrev pub at_value : Given → UsageWhy → Usage
 at_value given why = record { word = given.word; why = why }
 
--- the first fault of flags: of their values in order, each refused though a later one sets the same, and then of the word that ended them
+-- the first fault of flags: of their values in order, each refused though a later one sets the same, and then of the
+-- word that ended them
 abbrev pub first_fault : List Given → Option Usage → Option Usage
 first_fault [] fault = fault
-first_fault (given ∷ rest) fault = option_or (option_map (at_value given) (value_fault given.flag given.text)) (first_fault rest fault)
+first_fault (given ∷ rest) fault = option_or (option_map (at_value given) (value_fault given.flag given.text))
+    (first_fault rest fault)
 
 -- what the flags set, and where the plain words begin
 pub record Flagged : Type 0 where
@@ -127,4 +132,5 @@ unless None x = Ok x
 unfoldable pub flags_of : Verb → List (List ℕ) → Result Flagged Usage
 flags_of verb rest =
     let split = split_words verb 1 false rest in
-    unless (first_fault split.given split.fault) (record { settings = settings_of verb split.given; first = split.first })
+    unless (first_fault split.given split.fault)
+    (record { settings = settings_of verb split.given; first = split.first })

@@ -1,5 +1,6 @@
 -- The values of flags. The spellings of a truth are Go's (strconv.ParseBool); the rest is this project's rule.
-use Rattle.std.specs.Prelude.{ℕ, ◌-◌, ◌*◌, Bool, true, false, ◌&&◌, ◌||◌, ◌==◌, if◌then◌else◌, List, length, take, codes, slice_index, Option, Some, None, option_map, nat_lt, nat_le, bytes_eq}
+use Rattle.std.specs.Prelude.{ℕ, ◌-◌, ◌*◌, Bool, true, false, ◌&&◌, ◌||◌, ◌==◌, if◌then◌else◌, List, length, take}
+use Rattle.std.specs.Prelude.{codes, slice_index, Option, Some, None, option_map, nat_lt, nat_le, bytes_eq}
 use Rattle.std.specs.Str.Parse.{digits_value}
 use Rattle.ls_words.specs.Digit.{all_digits}
 

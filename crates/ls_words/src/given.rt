@@ -25,7 +25,8 @@ pub struct Given<'w> {
 fn next_word<'w>(words: &'w Words, at: u32, flag: Flag) -> Result<Given<'w>, WordsFault>
     requires { at < length words.now }
     ensures value { AgreesBy as_given result (next_word at flag (drop (at + 1) words.now)) }
-    ensures within { IfOk result (λ given. (at ≤ given.word) × (given.word ≤ at + 1) × (given.word < length words.now)) }
+    ensures within { IfOk result (λ given.
+        (at ≤ given.word) × (given.word ≤ at + 1) × (given.word < length words.now)) }
 {
     let count = words.len();
     if at + 1 == count {
@@ -50,7 +51,8 @@ pub fn given_at<'w>(
 ) -> Result<Given<'w>, WordsFault>
     requires { at < length words.now }
     ensures value { AgreesBy as_given result (given_at verb at word.now (drop (at + 1) words.now)) }
-    ensures within { IfOk result (λ given. (at ≤ given.word) × (given.word ≤ at + 1) × (given.word < length words.now)) }
+    ensures within { IfOk result (λ given.
+        (at ≤ given.word) × (given.word ≤ at + 1) × (given.word < length words.now)) }
 {
     let Some(named) = named_of(word) else {
         return Err(refusal(at, UsageWhy::BadSyntax));

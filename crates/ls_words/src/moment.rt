@@ -4,7 +4,8 @@ ghost use Rattle.std.specs.Prelude.{◌≡◌, ◌+◌, ◌*◌, ◌^◌, ◌<�
 ghost use Rattle.std.specs.Char.{is_ascii_digit};
 ghost use Rattle.std.specs.List.{prefix_len};
 ghost use Rattle.jiff_core.specs.Calendar.{IsEpochDay, IsWithin};
-ghost use Rattle.ls_words.specs.Moment.{day_number, day_of, fraction_with, fraction_behind, fraction_of, offset_of, moment_at, moment_of};
+ghost use Rattle.ls_words.specs.Moment.{day_number, day_of, fraction_with, fraction_behind, fraction_of, offset_of};
+ghost use Rattle.ls_words.specs.Moment.{moment_at, moment_of};
 ghost use Rattle.ls_words.specs.MomentView.{as_fraction};
 
 use crate::clock::{clock_at, digits_at, second_of};

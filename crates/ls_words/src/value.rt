@@ -1,7 +1,8 @@
 //! The values of flags.
 
 ghost use Rattle.std.specs.Prelude.{◌≡◌, ◌^◌, ◌<◌, ◌≤◌, IfSome, IsTrue, option_copied};
-ghost use Rattle.ls_words.specs.Value.{is_true_word, is_false_word, truth_of, is_number, is_within, number_of, without_last, timed, duration_of};
+ghost use Rattle.ls_words.specs.Value.{is_true_word, is_false_word, truth_of, is_number, is_within, number_of};
+ghost use Rattle.ls_words.specs.Value.{without_last, timed, duration_of};
 
 use crate::digit::all_digits;
 

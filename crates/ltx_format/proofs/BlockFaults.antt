@@ -1,14 +1,18 @@
 -- The first fault of blocks, and of what comes behind them, is that of their readers.
-use Rattle.std.proofs.Common.{◌≡◌, ℕ, zero, suc, ◌+◌, ◌<◌, ◌≤◌, Bool, false, cond, eqb, leb, List, [], ◌∷◌, length, take, drop, Option, Result, Ok, Err, refl, ap, ◌∙◌, arith, inl, inr}
+use Rattle.std.proofs.Common.{◌≡◌, ℕ, zero, suc, ◌+◌, ◌<◌, ◌≤◌, Bool, false, cond, eqb, leb, List, [], ◌∷◌, length}
+use Rattle.std.proofs.Common.{take, drop, Option, Result, Ok, Err, refl, ap, ◌∙◌, arith, inl, inr}
 use Rattle.std.specs.Option.{option_or}
 use Rattle.std.specs.Int.{w16, w32}
 use Rattle.std.proofs.lemmas.Bool.{cases_Bool, cases_lt, le-leb, lt-leb, leb-true}
 use Rattle.std.proofs.lemmas.List.{length-drop, drop-drop}
 use Rattle.ltx_format.specs.declared.fault.LtxFault.{LtxFault}
 use Rattle.ltx_format.specs.declared.fault.LtxFault.TheVariants.{Short, BadOrder}
-use Rattle.ltx_format.specs.FirstFault.{first_failed, number, has_index, page_size, commit, is_next, is_whole, block_tests, page_tests, tail_fault, end_fault, fault_from}
-use Rattle.ltx_format.specs.Reading.{◌>>=◌, where_true, passes, flags_from, block_at, last_at, page_at, blocks_at, index_part_at, end_at}
-use Rattle.ltx_format.proofs.TestSteps.{fault_of, bind_assoc, step, first_then-or, number_to, number_short, flags_steps-or}
+use Rattle.ltx_format.specs.FirstFault.{first_failed, number, has_index, page_size, commit, is_next, is_whole}
+use Rattle.ltx_format.specs.FirstFault.{block_tests, page_tests, tail_fault, end_fault, fault_from}
+use Rattle.ltx_format.specs.Reading.{◌>>=◌, where_true, passes, flags_from, block_at, last_at, page_at, blocks_at}
+use Rattle.ltx_format.specs.Reading.{index_part_at, end_at}
+use Rattle.ltx_format.proofs.TestSteps.{fault_of, bind_assoc, step, first_then-or, number_to, number_short}
+use Rattle.ltx_format.proofs.TestSteps.{flags_steps-or}
 use Rattle.ltx_format.proofs.BlockLoop.{Blocks, next_parts}
 use Rattle.ltx_format.proofs.TailFaults.{block_numbers, tail_fault-is}
 

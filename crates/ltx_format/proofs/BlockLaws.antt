@@ -1,5 +1,6 @@
 -- The laws of the reader of blocks.
-use Rattle.std.proofs.Common.{◌≡◌, ℕ, zero, suc, ◌+◌, ◌^◌, ◌<◌, ◌≤◌, ◌≢◌, true, eqb, leb, List, [], ◌∷◌, ◌++◌, length, take, drop, Ok, refl, sym, ap, subst, ◌∙◌, append_assoc, arith, inl, inr}
+use Rattle.std.proofs.Common.{◌≡◌, ℕ, zero, suc, ◌+◌, ◌^◌, ◌<◌, ◌≤◌, ◌≢◌, true, eqb, leb, List, [], ◌∷◌, ◌++◌, length}
+use Rattle.std.proofs.Common.{take, drop, Ok, refl, sym, ap, subst, ◌∙◌, append_assoc, arith, inl, inr}
 use Rattle.std.specs.Prelude.{replicate}
 use Rattle.std.specs.List.{flat_map}
 use Rattle.std.specs.Int.{w16, w32, to_be_bytes}
@@ -12,7 +13,8 @@ use Rattle.ltx_format.specs.LtxFormat.{page_block}
 use Rattle.ltx_format.specs.FirstFault.{is_next}
 use Rattle.ltx_format.specs.Reading.{number_at, flags_from, where_true, block_at, last_at, page_at, blocks_at}
 use Rattle.ltx_format.proofs.StepLemmas.{bind_then, where_true-ok, same_ok}
-use Rattle.ltx_format.proofs.FieldLaws.{AreBytes, AreBytes-drop, AreBytes-take, BeginsWith, BeginsWith-then, numbers16, numbers32, number-read, number-again, flags-read, flags-again}
+use Rattle.ltx_format.proofs.FieldLaws.{AreBytes, AreBytes-drop, AreBytes-take, BeginsWith, BeginsWith-then, numbers16}
+use Rattle.ltx_format.proofs.FieldLaws.{numbers32, number-read, number-again, flags-read, flags-again}
 use Rattle.ltx_format.proofs.BlockLoop.{Blocks, next_parts, next_true}
 
 -- the page of a block: its number is above the last, at most the commit and not the lock page, and it is as

@@ -9,7 +9,8 @@ use Rattle.ls_base.specs.Change.{Change}
 use Rattle.ls_base.specs.declared.place.Place.{Place}
 use Rattle.ls_base.specs.declared.place.Place.TheVariants.{Wal, Rest}
 use Rattle.ltx_format.specs.declared.header.LtxHeader.{LtxHeader}
-use Rattle.ltx_format.specs.LtxFormat.{log_fields, sum_fields, header_flags, header_bytes, index_part, page_block, file_sum, summed_bytes, ltx_bytes, ArePages, IsLtxFile}
+use Rattle.ltx_format.specs.LtxFormat.{log_fields, sum_fields, header_flags, header_bytes, index_part, page_block}
+use Rattle.ltx_format.specs.LtxFormat.{file_sum, summed_bytes, ltx_bytes, ArePages, IsLtxFile}
 use Rattle.ltx_format.proofs.FieldLaws.{AreBytes}
 use Rattle.ltx_format.proofs.BlockLoop.{Blocks}
 use Rattle.ltx_format.proofs.BlockLaws.{AreBlocks}

@@ -1,5 +1,6 @@
 -- The first fault of a file is that of its reader, and bytes without one are a file.
-use Rattle.std.proofs.Common.{◌≡◌, ◌↔◌, ℕ, suc, ◌+◌, ◌<◌, ◌≤◌, ◌^◌, Bool, true, false, eqb, ◌&&◌, T, List, [], ◌∷◌, ◌++◌, length, drop, Some, None, Result, Ok, Err, refl, sym, ap, ◌∙◌, length-append, arith}
+use Rattle.std.proofs.Common.{◌≡◌, ◌↔◌, ℕ, suc, ◌+◌, ◌<◌, ◌≤◌, ◌^◌, Bool, true, false, eqb, ◌&&◌, T, List, [], ◌∷◌}
+use Rattle.std.proofs.Common.{◌++◌, length, drop, Some, None, Result, Ok, Err, refl, sym, ap, ◌∙◌, length-append, arith}
 use Rattle.std.specs.Option.{option_or}
 use Rattle.std.specs.Result.{IfErr}
 use Rattle.std.specs.Map.{keys_of}
@@ -16,8 +17,10 @@ use Rattle.ltx_format.specs.declared.fault.LtxFault.TheVariants.{BadOrder}
 use Rattle.ltx_format.specs.declared.file.LtxFile.{LtxFile}
 use Rattle.ltx_format.specs.declared.header.LtxHeader.{LtxHeader}
 use Rattle.ltx_format.specs.LtxFormat.{IsLtxFile, header_flags, header_bytes}
-use Rattle.ltx_format.specs.FirstFault.{page_size, commit, min_txid, has_index, header_fault, fault_from, first_fault, TellsFirstFault}
-use Rattle.ltx_format.specs.Reading.{◌>>=◌, where_true, passes, header_at, blocks_at, index_part_at, end_at, has_all, file_at, ReadsInMemory, parts}
+use Rattle.ltx_format.specs.FirstFault.{page_size, commit, min_txid, has_index, header_fault, fault_from, first_fault}
+use Rattle.ltx_format.specs.FirstFault.{TellsFirstFault}
+use Rattle.ltx_format.specs.Reading.{◌>>=◌, where_true, passes, header_at, blocks_at, index_part_at, end_at, has_all}
+use Rattle.ltx_format.specs.Reading.{file_at, ReadsInMemory, parts}
 use Rattle.ltx_format.proofs.TestSteps.{fault_of}
 use Rattle.ltx_format.proofs.FieldLaws.{AreBytes, numbers32, numbers64, flags_fit, flags_tell}
 use Rattle.ltx_format.proofs.HeaderLaws.{header-read, header-length, size_bounds, commit_fits}

@@ -1,16 +1,19 @@
 -- The laws of the reader of whole files.
-use Rattle.std.proofs.Common.{◌≡◌, ℕ, ◌+◌, ◌-◌, ◌^◌, ◌<◌, true, eqb, not, List, [], ◌++◌, length, take, Ok, refl, sym, ap, subst, ◌∙◌, append_assoc, arith, inl, inr}
+use Rattle.std.proofs.Common.{◌≡◌, ℕ, ◌+◌, ◌-◌, ◌^◌, ◌<◌, true, eqb, not, List, [], ◌++◌, length, take, Ok, refl, sym}
+use Rattle.std.proofs.Common.{ap, subst, ◌∙◌, append_assoc, arith, inl, inr}
 use Rattle.std.specs.Prelude.{replicate}
 use Rattle.std.specs.List.{flat_map}
 use Rattle.std.specs.Map.{keys_of}
 use Rattle.std.specs.Int.{w64, to_be_bytes}
-use Rattle.std.proofs.lemmas.Bool.{cases_eq, or_cases, or_left, or_right, not-true, not_from_false, eqb-true, eqb-false, eq-eqb, ne_eqb}
+use Rattle.std.proofs.lemmas.Bool.{cases_eq, or_cases, or_left, or_right, not-true, not_from_false, eqb-true, eqb-false}
+use Rattle.std.proofs.lemmas.Bool.{eq-eqb, ne_eqb}
 use Rattle.std.proofs.lemmas.List.{nil_from_length, take_at, length-append, length-map}
 use Rattle.ltx_format.specs.declared.fault.LtxFault.TheVariants.{BadReserved, BadOrder, BadSum, Extra}
 use Rattle.ltx_format.specs.declared.header.LtxHeader.{LtxHeader}
 use Rattle.ltx_format.specs.LtxFormat.{header_bytes, page_block, index_part, file_sum, IsHeader}
 use Rattle.ltx_format.specs.FirstFault.{stored_pages}
-use Rattle.ltx_format.specs.Reading.{where_true, passes, number_at, sum_before, header_at, blocks_at, end_at, index_part_at, has_all, file_at}
+use Rattle.ltx_format.specs.Reading.{where_true, passes, number_at, sum_before, header_at, blocks_at, end_at}
+use Rattle.ltx_format.specs.Reading.{index_part_at, has_all, file_at}
 use Rattle.ltx_format.proofs.StepLemmas.{bind_then, where_true-ok, same_ok}
 use Rattle.ltx_format.proofs.FieldLaws.{AreBytes, numbers64, number-read, number-again}
 use Rattle.ltx_format.proofs.HeaderLaws.{joined, header-read, header-again, commit_fits}

@@ -1,5 +1,6 @@
 -- The first fault of a header is that of its reader.
-use Rattle.std.proofs.Common.{◌≡◌, ℕ, ◌*◌, ◌^◌, ◌≤◌, Bool, true, false, eqb, leb, not, ◌&&◌, ◌||◌, List, [], ◌∷◌, length, drop, Result, refl, sym, arith, inl, inr}
+use Rattle.std.proofs.Common.{◌≡◌, ℕ, ◌*◌, ◌^◌, ◌≤◌, Bool, true, false, eqb, leb, not, ◌&&◌, ◌||◌, List, [], ◌∷◌}
+use Rattle.std.proofs.Common.{length, drop, Result, refl, sym, arith, inl, inr}
 use Rattle.std.specs.Int.{w32, w64}
 use Rattle.std.proofs.lemmas.Bool.{cases_Bool, cases_lt, eqb-true, ne_eqb, le-ltb, lt-ltb, le-leb, lt-leb}
 use Rattle.std.proofs.Math.Bool.{or-false, or-true}
@@ -8,10 +9,13 @@ use Rattle.ls_base.specs.Limits.{database_limit}
 use Rattle.ls_base.specs.declared.place.Place.{Place}
 use Rattle.ls_base.specs.declared.place.Place.TheVariants.{Rest}
 use Rattle.ltx_format.specs.declared.fault.LtxFault.{LtxFault}
-use Rattle.ltx_format.specs.declared.fault.LtxFault.TheVariants.{BadMagic, BadPageSize, BadCommit, BadRange, BadReserved}
-use Rattle.ltx_format.specs.FirstFault.{Tests, first_failed, number, flags, has_index, page_size, commit, min_txid, are_frames, is_in_log, is_at_rest, header_tests, header_fault}
+use Rattle.ltx_format.specs.declared.fault.LtxFault.TheVariants.{BadMagic, BadPageSize, BadCommit, BadRange}
+use Rattle.ltx_format.specs.declared.fault.LtxFault.TheVariants.{BadReserved}
+use Rattle.ltx_format.specs.FirstFault.{Tests, first_failed, number, flags, has_index, page_size, commit, min_txid}
+use Rattle.ltx_format.specs.FirstFault.{are_frames, is_in_log, is_at_rest, header_tests, header_fault}
 use Rattle.ltx_format.specs.LtxFormat.{header_flags}
-use Rattle.ltx_format.specs.Reading.{◌>>=◌, where_true, number_at, behind, size_from, commit_at, range_from, wal_at, rest_at, place_at, fields_at, header_at}
+use Rattle.ltx_format.specs.Reading.{◌>>=◌, where_true, number_at, behind, size_from, commit_at, range_from, wal_at}
+use Rattle.ltx_format.specs.Reading.{rest_at, place_at, fields_at, header_at}
 use Rattle.ltx_format.proofs.TestSteps.{fault_of, step_then, number_here, behind_here, flags_steps}
 
 -- ---- the place

@@ -1,5 +1,6 @@
 -- The laws of the reader of headers.
-use Rattle.std.proofs.Common.{◌≡◌, ℕ, zero, suc, ◌*◌, ◌^◌, ◌<◌, ◌≤◌, Bool, true, false, cond, eqb, leb, ltb, not, ◌&&◌, List, ◌++◌, length, Result, Ok, Err, refl, sym, ap, subst, ◌∙◌, arith}
+use Rattle.std.proofs.Common.{◌≡◌, ℕ, zero, suc, ◌*◌, ◌^◌, ◌<◌, ◌≤◌, Bool, true, false, cond, eqb, leb, ltb, not, ◌&&◌}
+use Rattle.std.proofs.Common.{List, ◌++◌, length, Result, Ok, Err, refl, sym, ap, subst, ◌∙◌, arith}
 use Rattle.std.specs.Prelude.{replicate}
 use Rattle.std.specs.Int.{w32, w64, to_be_bytes}
 use Rattle.std.proofs.Math.Nat.{pow-le-pow_right, mul-le-mul_left}
@@ -11,12 +12,16 @@ use Rattle.ls_base.proofs.PageSizeLemmas.{size_from_test, test_passes}
 use Rattle.ls_base.specs.declared.place.Place.{Place}
 use Rattle.ls_base.specs.declared.place.Place.TheVariants.{Wal, Rest}
 use Rattle.ltx_format.specs.declared.fault.LtxFault.{LtxFault}
-use Rattle.ltx_format.specs.declared.fault.LtxFault.TheVariants.{Short, BadMagic, BadPageSize, BadCommit, BadRange, BadReserved}
+use Rattle.ltx_format.specs.declared.fault.LtxFault.TheVariants.{Short, BadMagic, BadPageSize, BadCommit, BadRange}
+use Rattle.ltx_format.specs.declared.fault.LtxFault.TheVariants.{BadReserved}
 use Rattle.ltx_format.specs.declared.header.LtxHeader.{LtxHeader}
 use Rattle.ltx_format.specs.LtxFormat.{log_fields, sum_fields, header_flags, header_bytes, IsHeader}
-use Rattle.ltx_format.specs.Reading.{number_at, behind, flags_from, size_from, commit_at, range_from, place_at, fields_at, header_at}
+use Rattle.ltx_format.specs.Reading.{number_at, behind, flags_from, size_from, commit_at, range_from, place_at}
+use Rattle.ltx_format.specs.Reading.{fields_at, header_at}
 use Rattle.ltx_format.proofs.StepLemmas.{bind_then, where_true-ok, same_ok}
-use Rattle.ltx_format.proofs.FieldLaws.{AreBytes, BeginsWith, numbers32, numbers64, number-read, number-again, behind-read, behind-again, flags-read, flags-again, flags_fit, flags_even, flags_tell}
+use Rattle.ltx_format.proofs.FieldLaws.{AreBytes, BeginsWith, numbers32, numbers64, number-read, number-again}
+use Rattle.ltx_format.proofs.FieldLaws.{behind-read, behind-again, flags-read, flags-again, flags_fit, flags_even}
+use Rattle.ltx_format.proofs.FieldLaws.{flags_tell}
 use Rattle.ltx_format.proofs.PlaceLaws.{place_fields, place-read, place-again}
 
 -- ---- its own fields

@@ -1,5 +1,6 @@
 -- The laws of the reader of an index.
-use Rattle.std.proofs.Common.{◌≡◌, ℕ, ◌^◌, ◌<◌, Bool, true, false, eqb, List, [], ◌∷◌, ◌++◌, length, Ok, refl, subst, ap, ◌∙◌, append_assoc}
+use Rattle.std.proofs.Common.{◌≡◌, ℕ, ◌^◌, ◌<◌, Bool, true, false, eqb, List, [], ◌∷◌, ◌++◌, length, Ok, refl, subst}
+use Rattle.std.proofs.Common.{ap, ◌∙◌, append_assoc}
 use Rattle.std.specs.List.{flat_map}
 use Rattle.std.specs.Int.{w32, to_be_bytes}
 use Rattle.std.proofs.lemmas.Bool.{eqb-true, eq-eqb}
@@ -7,7 +8,8 @@ use Rattle.ltx_format.specs.declared.fault.LtxFault.TheVariants.{BadIndex}
 use Rattle.ltx_format.specs.LtxFormat.{index_part}
 use Rattle.ltx_format.specs.Reading.{number_at, entry_at, numbers_at, index_at, index_part_at}
 use Rattle.ltx_format.proofs.StepLemmas.{bind_then, where_true-ok, same_ok}
-use Rattle.ltx_format.proofs.FieldLaws.{AreBytes, BeginsWith, BeginsWith-then, numbers32, number-read, number-again, behind-read, behind-again}
+use Rattle.ltx_format.proofs.FieldLaws.{AreBytes, BeginsWith, BeginsWith-then, numbers32, number-read, number-again}
+use Rattle.ltx_format.proofs.FieldLaws.{behind-read, behind-again}
 
 -- the numbers' bytes
 abbrev pub number_fields : List ℕ → List ℕ

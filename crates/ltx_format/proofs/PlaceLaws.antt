@@ -1,5 +1,6 @@
 -- The laws of the reader of places.
-use Rattle.std.proofs.Common.{◌≡◌, ℕ, zero, suc, ◌+◌, ◌-◌, ◌*◌, ◌/◌, ◌%◌, ◌^◌, ◌≤◌, true, cond, eqb, leb, ◌&&◌, List, ◌++◌, Ok, Err, refl, subst, ◌∙◌, arith, inl, inr}
+use Rattle.std.proofs.Common.{◌≡◌, ℕ, zero, suc, ◌+◌, ◌-◌, ◌*◌, ◌/◌, ◌%◌, ◌^◌, ◌≤◌, true, cond, eqb, leb, ◌&&◌, List}
+use Rattle.std.proofs.Common.{◌++◌, Ok, Err, refl, subst, ◌∙◌, arith, inl, inr}
 use Rattle.std.specs.Prelude.{replicate}
 use Rattle.std.specs.Int.{w32, w64, to_be_bytes}
 use Rattle.std.proofs.Math.Nat.{div-add-mod, mul-mod_left, mul-zero, mul_comm}
@@ -11,7 +12,8 @@ use Rattle.ltx_format.specs.LtxFormat.{log_fields, sum_fields, IsPlaceFor}
 use Rattle.ltx_format.specs.FirstFault.{are_frames}
 use Rattle.ltx_format.specs.Reading.{number_at, behind, wal_at, rest_at, place_at}
 use Rattle.ltx_format.proofs.StepLemmas.{bind_then, where_true-ok, err_is_not_ok}
-use Rattle.ltx_format.proofs.FieldLaws.{AreBytes, BeginsWith, numbers32, numbers64, number-read, number-again, behind-read, behind-again}
+use Rattle.ltx_format.proofs.FieldLaws.{AreBytes, BeginsWith, numbers32, numbers64, number-read, number-again}
+use Rattle.ltx_format.proofs.FieldLaws.{behind-read, behind-again}
 
 -- the fields of a place, with the node between them
 abbrev pub place_fields : Place → List ℕ

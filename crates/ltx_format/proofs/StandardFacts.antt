@@ -5,7 +5,9 @@ use Rattle.std.specs.Int.{w32, w64, to_be_bytes}
 use Rattle.ls_base.specs.declared.place.Place.TheVariants.{Wal, Rest}
 use Rattle.ls_sums.specs.Crc64.{after_bits}
 use Rattle.ltx_format.specs.declared.fault.LtxFault.{LtxFault}
-use Rattle.ltx_format.specs.declared.fault.LtxFault.TheVariants.{Short, BadMagic, Compressed, BadFlags, BadPageSize, BadCommit, BadRange, BadReserved, BadOrder, BadSum, Extra, BadIndex}
+use Rattle.ltx_format.specs.declared.fault.LtxFault.TheVariants.{Short, BadMagic, Compressed, BadFlags, BadPageSize}
+use Rattle.ltx_format.specs.declared.fault.LtxFault.TheVariants.{BadCommit, BadRange, BadReserved, BadOrder, BadSum}
+use Rattle.ltx_format.specs.declared.fault.LtxFault.TheVariants.{Extra, BadIndex}
 use Rattle.ltx_format.specs.declared.header.LtxHeader.{LtxHeader}
 use Rattle.ltx_format.specs.LtxFormat.{header_bytes}
 use Rattle.ltx_format.specs.FirstFault.{header_fault, first_fault, fault_from, index_fault}

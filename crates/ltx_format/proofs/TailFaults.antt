@@ -1,5 +1,6 @@
 -- The first fault of what stands behind the blocks, the index and the trailer, is that of its readers.
-use Rattle.std.proofs.Common.{◌≡◌, ℕ, zero, suc, ◌+◌, ◌*◌, ◌<◌, ◌≤◌, eqb, leb, List, [], ◌∷◌, length, take, drop, Option, Some, None, Result, Err, refl, sym, ap, ◌∙◌, arith, inl, inr}
+use Rattle.std.proofs.Common.{◌≡◌, ℕ, zero, suc, ◌+◌, ◌*◌, ◌<◌, ◌≤◌, eqb, leb, List, [], ◌∷◌, length, take, drop}
+use Rattle.std.proofs.Common.{Option, Some, None, Result, Err, refl, sym, ap, ◌∙◌, arith, inl, inr}
 use Rattle.std.specs.Option.{option_or}
 use Rattle.std.specs.Int.{w32, w64}
 use Rattle.std.proofs.lemmas.Bool.{cases_Bool, cases_lt, cases_eq, eq-eqb, ne_eqb, le-leb, lt-leb}
@@ -7,8 +8,10 @@ use Rattle.std.proofs.lemmas.List.{length-drop}
 use Rattle.ltx_format.specs.declared.fault.LtxFault.{LtxFault}
 use Rattle.ltx_format.specs.declared.fault.LtxFault.TheVariants.{Short, BadReserved, BadSum, Extra, BadIndex}
 use Rattle.ltx_format.specs.LtxFormat.{file_sum}
-use Rattle.ltx_format.specs.FirstFault.{first_failed, number, has_index, block_number, entry_tests, count_tests, index_fault, trailer_tests, tail_fault}
-use Rattle.ltx_format.specs.Reading.{◌>>=◌, where_true, behind, entry_at, numbers_at, index_at, index_part_at, sum_before, end_at}
+use Rattle.ltx_format.specs.FirstFault.{first_failed, number, has_index, block_number, entry_tests, count_tests}
+use Rattle.ltx_format.specs.FirstFault.{index_fault, trailer_tests, tail_fault}
+use Rattle.ltx_format.specs.Reading.{◌>>=◌, where_true, behind, entry_at, numbers_at, index_at, index_part_at}
+use Rattle.ltx_format.specs.Reading.{sum_before, end_at}
 use Rattle.ltx_format.proofs.TestSteps.{fault_of, bind_assoc, step, step_then, last_step, number_to, number_short}
 
 -- the numbers of blocks, from the one on before which `k` others stand

@@ -1,6 +1,7 @@
 -- The first fault of bytes: the parts of a file are tested in this order, and the first test that fails
 -- tells.
-use Rattle.std.specs.Prelude.{◌≡◌, ℕ, zero, suc, ◌+◌, ◌-◌, ◌*◌, ◌%◌, ◌^◌, Bool, List, [], ◌∷◌, length, take, drop, Option, Some, None, nat_lt, nat_le, ◌==◌, ◌&&◌, ◌||◌, not, if◌then◌else◌}
+use Rattle.std.specs.Prelude.{◌≡◌, ℕ, zero, suc, ◌+◌, ◌-◌, ◌*◌, ◌%◌, ◌^◌, Bool, List, [], ◌∷◌, length, take, drop}
+use Rattle.std.specs.Prelude.{Option, Some, None, nat_lt, nat_le, ◌==◌, ◌&&◌, ◌||◌, not, if◌then◌else◌}
 use Rattle.std.specs.Option.{option_or}
 use Rattle.std.specs.Int.{Width, w16, w32, w64, byte_len, from_be_bytes}
 use Rattle.ls_base.specs.PageSize.{is_page_size, lock_page}
@@ -8,7 +9,9 @@ use Rattle.ls_base.specs.Limits.{database_limit, log_limit}
 use Rattle.ltx_format.specs.declared.fault.DecodeFault.{DecodeFault}
 use Rattle.ltx_format.specs.declared.fault.DecodeFault.TheVariants.{Fault, Memory}
 use Rattle.ltx_format.specs.declared.fault.LtxFault.{LtxFault}
-use Rattle.ltx_format.specs.declared.fault.LtxFault.TheVariants.{Short, BadMagic, Compressed, BadFlags, BadPageSize, BadCommit, BadRange, BadReserved, BadOrder, BadSum, Extra, BadIndex}
+use Rattle.ltx_format.specs.declared.fault.LtxFault.TheVariants.{Short, BadMagic, Compressed, BadFlags, BadPageSize}
+use Rattle.ltx_format.specs.declared.fault.LtxFault.TheVariants.{BadCommit, BadRange, BadReserved, BadOrder, BadSum}
+use Rattle.ltx_format.specs.declared.fault.LtxFault.TheVariants.{Extra, BadIndex}
 use Rattle.ltx_format.specs.LtxFormat.{file_sum}
 
 -- tests, each with the fault of bytes that fail it

@@ -2,7 +2,8 @@
 
 ghost use Rattle.std.specs.Prelude.{◌≡◌, ◌++◌, length, IfOk, OnOk};
 ghost use Rattle.std.specs.FinMap as map;
-ghost use Rattle.ltx_format.specs.LtxFormat.{IsHeader, ArePages, IsLtxFile, change_of, page_block, page_blocks, index_bytes};
+ghost use Rattle.ltx_format.specs.LtxFormat.{IsHeader, ArePages, IsLtxFile, change_of, page_block, page_blocks};
+ghost use Rattle.ltx_format.specs.LtxFormat.{index_bytes};
 
 use crate::file::LtxFile;
 use crate::header::LtxHeader;

@@ -1,5 +1,6 @@
 -- A new reader, and the header that it read.
-use Rattle.std.proofs.Common.{◌≡◌, ℕ, suc, ◌+◌, ◌-◌, ◌*◌, ◌≤◌, ◌<◌, List, [], ◌++◌, length, take, Option, Some, None, Result, Ok, Err, refl, sym, ap, subst, ◌∙◌, arith}
+use Rattle.std.proofs.Common.{◌≡◌, ℕ, suc, ◌+◌, ◌-◌, ◌*◌, ◌≤◌, ◌<◌, List, [], ◌++◌, length, take, Option, Some, None}
+use Rattle.std.proofs.Common.{Result, Ok, Err, refl, sym, ap, subst, ◌∙◌, arith}
 use Rattle.std.specs.Result.{IsErrAnd, IfErr}
 use Rattle.crash_disk.specs.Told.{Told}
 use Rattle.std.proofs.lemmas.Bool.{lt-leb}
@@ -13,7 +14,9 @@ use Rattle.ltx_reader.specs.declared.progress.Progress.{Progress}
 use Rattle.ltx_reader.specs.declared.progress.Progress.TheVariants.{Going}
 use Rattle.ltx_format.specs.LtxFormat.{HasHeader}
 use Rattle.ltx_format.specs.FirstFault.{commit, fault_from, first_fault, header_fault}
-use Rattle.ltx_reader.specs.Reader.{OfBytes, TellsFault, Reader, AreBytes, IsSummed, IsFaultlessTo, IsReaderOf, Progresses, next_block, block_offset, read_to, pages_from, pages_to_come, pages_left, pages_of}
+use Rattle.ltx_reader.specs.Reader.{OfBytes, TellsFault, Reader, AreBytes, IsSummed, IsFaultlessTo, IsReaderOf}
+use Rattle.ltx_reader.specs.Reader.{Progresses, next_block, block_offset, read_to, pages_from, pages_to_come}
+use Rattle.ltx_reader.specs.Reader.{pages_left, pages_of}
 use Rattle.ltx_reader.specs.ReaderSteps.{IsFilled}
 use Rattle.std.proofs.lemmas.List.{take_all}
 use Rattle.ltx_reader.proofs.ReaderTestLemmas.{filled_whole}

@@ -1,12 +1,15 @@
 -- The first fault and the pages from a block on.
-use Rattle.std.proofs.Common.{◌≡◌, ◌≢◌, ℕ, zero, suc, ◌+◌, ◌≤◌, ◌<◌, Bool, true, false, ◌==◌, ◌&&◌, not, nat_le, nat_lt, List, [], ◌∷◌, length, take, drop, Option, Some, None, refl, sym, ◌∙◌, arith, if◌then◌else◌}
+use Rattle.std.proofs.Common.{◌≡◌, ◌≢◌, ℕ, zero, suc, ◌+◌, ◌≤◌, ◌<◌, Bool, true, false, ◌==◌, ◌&&◌, not, nat_le, nat_lt}
+use Rattle.std.proofs.Common.{List, [], ◌∷◌, length, take, drop, Option, Some, None, refl, sym, ◌∙◌, arith}
+use Rattle.std.proofs.Common.{if◌then◌else◌}
 use Rattle.std.specs.Option.{option_or}
 use Rattle.std.specs.Int.{w32}
 use Rattle.std.proofs.lemmas.Bool.{eq-eqb, ne_eqb, and_parts, ltb-true, leb-true}
 use Rattle.ls_base.specs.PageSize.{lock_page}
 use Rattle.ltx_format.specs.declared.fault.LtxFault.{LtxFault}
 use Rattle.ltx_format.specs.declared.fault.LtxFault.TheVariants.{Short, BadOrder}
-use Rattle.ltx_format.specs.FirstFault.{Tests, first_failed, number, page_size, commit, block_tests, page_tests, is_next, end_fault, fault_from}
+use Rattle.ltx_format.specs.FirstFault.{Tests, first_failed, number, page_size, commit, block_tests, page_tests}
+use Rattle.ltx_format.specs.FirstFault.{is_next, end_fault, fault_from}
 use Rattle.ltx_reader.specs.Reader.{Reader, pages_from}
 use Rattle.ltx_reader.specs.ReaderSteps.{next_fault, reaches}
 

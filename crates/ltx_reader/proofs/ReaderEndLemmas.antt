@@ -1,11 +1,13 @@
 -- The end of a file behind its blocks: what is tested, and how many bytes that takes.
-use Rattle.std.proofs.Common.{◌≡◌, ℕ, ◌+◌, ◌*◌, Bool, true, false, not, ◌==◌, ◌||◌, List, [], ◌∷◌, Option, Some, None, Result, refl, sym, ap, subst, ◌∙◌, if◌then◌else◌}
+use Rattle.std.proofs.Common.{◌≡◌, ℕ, ◌+◌, ◌*◌, Bool, true, false, not, ◌==◌, ◌||◌, List, [], ◌∷◌, Option, Some, None}
+use Rattle.std.proofs.Common.{Result, refl, sym, ap, subst, ◌∙◌, if◌then◌else◌}
 use Rattle.std.specs.Option.{option_or}
 use Rattle.ltx_format.specs.declared.fault.LtxFault.{LtxFault}
 use Rattle.ltx_format.specs.declared.fault.LtxFault.TheVariants.{BadOrder}
 use Rattle.ltx_format.specs.declared.header.LtxHeader.{LtxHeader}
 use Rattle.ltx_format.specs.LtxFormat.{HasHeader}
-use Rattle.ltx_format.specs.FirstFault.{first_failed, has_index, page_size, commit, stored_pages, is_whole, index_fault, trailer_tests, tail_fault, end_fault}
+use Rattle.ltx_format.specs.FirstFault.{first_failed, has_index, page_size, commit, stored_pages, is_whole, index_fault}
+use Rattle.ltx_format.specs.FirstFault.{trailer_tests, tail_fault, end_fault}
 use Rattle.ltx_reader.specs.declared.read_fault.ReadFault.{ReadFault}
 use Rattle.ltx_reader.specs.ReaderSteps.{Passes}
 use Rattle.ltx_reader.proofs.ReaderHeaderLemmas.{fields_of}

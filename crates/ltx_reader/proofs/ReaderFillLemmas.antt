@@ -1,7 +1,9 @@
 -- A buffer that is filled from a file by several readings.
-use Rattle.std.proofs.Common.{◌≡◌, ℕ, ◌+◌, ◌-◌, ◌≤◌, ◌<◌, min, List, ◌++◌, length, take, drop, refl, sym, ap, ◌∙◌, append_assoc, arith}
+use Rattle.std.proofs.Common.{◌≡◌, ℕ, ◌+◌, ◌-◌, ◌≤◌, ◌<◌, min, List, ◌++◌, length, take, drop, refl, sym, ap, ◌∙◌}
+use Rattle.std.proofs.Common.{append_assoc, arith}
 use borrow.Rule.Slice.PartMut.{mid_of, put_mid, post_of}
-use Rattle.std.proofs.lemmas.List.{length-take, length-drop, length-append, take-append-drop, take-take, take_at, drop_at, drop-drop, drop-take}
+use Rattle.std.proofs.lemmas.List.{length-take, length-drop, length-append, take-append-drop, take-take, take_at}
+use Rattle.std.proofs.lemmas.List.{drop_at, drop-drop, drop-take}
 use Rattle.crash_disk.specs.declared.event.Event.{Event}
 use Rattle.crash_disk.specs.Files.{IsReadOf}
 use Rattle.ltx_reader.specs.Reader.{bytes_named}

@@ -1,5 +1,6 @@
 -- How the count of bytes that a disk gave rises over readings.
-use Rattle.std.proofs.Common.{Bool, true, false, if◌then◌else◌, ◌*◌, ◌≡◌, ℕ, ◌+◌, ◌-◌, ◌^◌, ◌≤◌, min, List, length, Option, Some, None, refl, ap, subst, ◌∙◌, inl, inr, arith}
+use Rattle.std.proofs.Common.{Bool, true, false, if◌then◌else◌, ◌*◌, ◌≡◌, ℕ, ◌+◌, ◌-◌, ◌^◌, ◌≤◌, min, List, length}
+use Rattle.std.proofs.Common.{Option, Some, None, refl, ap, subst, ◌∙◌, inl, inr, arith}
 use Rattle.std.specs.Prelude.{◌⊎◌}
 use Rattle.crash_disk.specs.Told.{gives}
 use Rattle.crash_disk.specs.declared.event.Event.{Event}

@@ -1,5 +1,6 @@
 -- What a header says stands in the first bytes of its file.
-use Rattle.std.proofs.Common.{◌==◌, ◌≡◌, ℕ, ◌+◌, ◌-◌, ◌*◌, ◌^◌, ◌≤◌, ◌<◌, ◌%◌, Bool, true, false, not, nat_le, ◌&&◌, ◌||◌, List, [], ◌∷◌, length, take, drop, refl, sym, ap, ◌∙◌, arith}
+use Rattle.std.proofs.Common.{◌==◌, ◌≡◌, ℕ, ◌+◌, ◌-◌, ◌*◌, ◌^◌, ◌≤◌, ◌<◌, ◌%◌, Bool, true, false, not, nat_le, ◌&&◌}
+use Rattle.std.proofs.Common.{◌||◌, List, [], ◌∷◌, length, take, drop, refl, sym, ap, ◌∙◌, arith}
 use Rattle.std.specs.Int.{Width, w32, w64, byte_len, from_be_bytes}
 use Rattle.std.proofs.lemmas.List.{take-take, drop-take, length-take}
 use Rattle.std.proofs.Math.Nat.{mul-le-mul_left, pow-le-pow_right}
@@ -8,8 +9,10 @@ use Rattle.ltx_format.specs.declared.header.LtxHeader.{LtxHeader}
 use Rattle.ltx_format.specs.LtxFormat.{HasHeader, IsHeader, header_bytes, header_flags}
 use Rattle.std.proofs.lemmas.Bool.{le-leb}
 use Rattle.ls_base.specs.Limits.{database_limit}
-use Rattle.ltx_format.specs.declared.fault.LtxFault.TheVariants.{Short, BadMagic, Compressed, BadFlags, BadPageSize, BadCommit, BadRange, BadReserved}
-use Rattle.ltx_format.specs.FirstFault.{Tests, first_failed, number, page_size, commit, min_txid, flags, has_index, are_frames, header_fault}
+use Rattle.ltx_format.specs.declared.fault.LtxFault.TheVariants.{Short, BadMagic, Compressed, BadFlags, BadPageSize}
+use Rattle.ltx_format.specs.declared.fault.LtxFault.TheVariants.{BadCommit, BadRange, BadReserved}
+use Rattle.ltx_format.specs.FirstFault.{Tests, first_failed, number, page_size, commit, min_txid, flags, has_index}
+use Rattle.ltx_format.specs.FirstFault.{are_frames, header_fault}
 use Rattle.ltx_format.proofs.FieldLaws.{numbers32, numbers64}
 
 -- a number within the first 100 bytes

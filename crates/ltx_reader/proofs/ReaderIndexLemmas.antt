@@ -1,5 +1,6 @@
 -- The index of a file that is read beside its blocks.
-use Rattle.std.proofs.Common.{◌≡◌, ◌≢◌, ℕ, zero, suc, ◌+◌, ◌-◌, ◌*◌, ◌≤◌, ◌<◌, Bool, true, false, nat_le, ◌==◌, List, [], ◌∷◌, ◌++◌, length, take, Option, Some, None, refl, sym, ap, subst, ◌∙◌, arith}
+use Rattle.std.proofs.Common.{◌≡◌, ◌≢◌, ℕ, zero, suc, ◌+◌, ◌-◌, ◌*◌, ◌≤◌, ◌<◌, Bool, true, false, nat_le, ◌==◌, List}
+use Rattle.std.proofs.Common.{[], ◌∷◌, ◌++◌, length, take, Option, Some, None, refl, sym, ap, subst, ◌∙◌, arith}
 use Rattle.std.specs.Option.{option_or}
 use Rattle.std.specs.Int.{w32, from_be_bytes}
 use Rattle.std.proofs.lemmas.Bool.{le-leb, eq-eqb, ne_eqb, leb-true}
@@ -8,7 +9,8 @@ use Rattle.ltx_format.specs.declared.fault.LtxFault.{LtxFault}
 use Rattle.ltx_format.specs.declared.fault.LtxFault.TheVariants.{Short, BadIndex}
 use Rattle.ltx_format.specs.declared.header.LtxHeader.{LtxHeader}
 use Rattle.ltx_format.specs.LtxFormat.{HasHeader}
-use Rattle.ltx_format.specs.FirstFault.{Tests, first_failed, number, block_number, entry_tests, count_tests, index_fault}
+use Rattle.ltx_format.specs.FirstFault.{Tests, first_failed, number, block_number, entry_tests, count_tests}
+use Rattle.ltx_format.specs.FirstFault.{index_fault}
 use Rattle.crash_disk.specs.declared.event.Event.{Event}
 use Rattle.ltx_reader.specs.Reader.{bytes_named, AreBytes, IsSummed, block_offset}
 use Rattle.ltx_reader.specs.ReaderSteps.{StandAt, reaches}

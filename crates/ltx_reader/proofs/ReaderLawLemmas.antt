@@ -1,5 +1,6 @@
 -- A reader at its end has read a file, and what it gave are the pages of the file's change.
-use Rattle.std.proofs.Common.{◌≡◌, ℕ, zero, suc, ◌+◌, ◌≤◌, Bool, true, false, ◌==◌, nat_le, List, [], ◌∷◌, ◌++◌, length, take, drop, Result, Ok, refl, sym, ap, subst, ◌∙◌, arith, if◌then◌else◌, inl, inr}
+use Rattle.std.proofs.Common.{◌≡◌, ℕ, zero, suc, ◌+◌, ◌≤◌, Bool, true, false, ◌==◌, nat_le, List, [], ◌∷◌, ◌++◌, length}
+use Rattle.std.proofs.Common.{take, drop, Result, Ok, refl, sym, ap, subst, ◌∙◌, arith, if◌then◌else◌, inl, inr}
 use Rattle.std.specs.Prelude.{◌⊎◌}
 use Rattle.std.specs.Int.{w16, w32, from_be_bytes}
 use Rattle.std.specs.FinMap.{entries}
@@ -11,7 +12,8 @@ use Rattle.ltx_format.specs.declared.fault.LtxFault.TheVariants.{Short, BadOrder
 use Rattle.ltx_format.specs.declared.header.LtxHeader.{LtxHeader}
 use Rattle.ltx_format.specs.LtxFormat.{HasHeader, IsLtxFile, header_bytes, page_blocks, ltx_bytes}
 use Rattle.ltx_format.specs.FirstFault.{page_size, commit, is_next}
-use Rattle.ltx_format.specs.Reading.{where_true, number_at, flags_from, block_at, last_at, page_at, blocks_at, header_at, index_part_at, end_at, has_all, file_at}
+use Rattle.ltx_format.specs.Reading.{where_true, number_at, flags_from, block_at, last_at, page_at, blocks_at}
+use Rattle.ltx_format.specs.Reading.{header_at, index_part_at, end_at, has_all, file_at}
 use Rattle.ltx_reader.specs.Reader.{AreBytes, Reader, IsReaderOf, Progresses, pages_from, pages_of}
 use Rattle.ltx_reader.specs.declared.progress.Progress.{Progress}
 use Rattle.ltx_reader.specs.declared.progress.Progress.TheVariants.{Ended}

@@ -1,5 +1,7 @@
 -- The index of a file of the format, and the first fault of an index.
-use Rattle.std.proofs.Common.{◌≡◌, ℕ, ◌+◌, ◌-◌, ◌*◌, ◌≤◌, ◌<◌, ◌^◌, Bool, true, false, not, nat_le, ◌==◌, ◌||◌, List, [], ◌∷◌, ◌++◌, length, take, drop, Option, Some, None, Result, Ok, Err, refl, sym, ap, ◌∙◌, append_assoc, length-append, arith, inl, inr}
+use Rattle.std.proofs.Common.{◌≡◌, ℕ, ◌+◌, ◌-◌, ◌*◌, ◌≤◌, ◌<◌, ◌^◌, Bool, true, false, not, nat_le, ◌==◌, ◌||◌, List}
+use Rattle.std.proofs.Common.{[], ◌∷◌, ◌++◌, length, take, drop, Option, Some, None, Result, Ok, Err, refl, sym, ap}
+use Rattle.std.proofs.Common.{◌∙◌, append_assoc, length-append, arith, inl, inr}
 use Rattle.std.specs.Prelude.{replicate}
 use Rattle.std.specs.Option.{option_or}
 use Rattle.std.specs.List.{flat_map}
@@ -24,7 +26,8 @@ use Rattle.ltx_format.proofs.PageLemmas.{blocks-from_pages, numbers_fit}
 use Rattle.ltx_format.proofs.FileLaws.{before_sum}
 use Rattle.ltx_reader.specs.declared.read_fault.ReadFault.{ReadFault}
 use Rattle.ltx_reader.specs.declared.read_fault.ReadFault.TheVariants.{Disk, Fault, Memory}
-use Rattle.ltx_reader.specs.ReaderIndex.{stored_count, indexed_length, index_offset, numbers_from, index_numbers, length_tests, numbers_fault, has_all, listed_fault}
+use Rattle.ltx_reader.specs.ReaderIndex.{stored_count, indexed_length, index_offset, numbers_from, index_numbers}
+use Rattle.ltx_reader.specs.ReaderIndex.{length_tests, numbers_fault, has_all, listed_fault}
 use Rattle.ltx_reader.specs.ReaderSteps.{Passes}
 use Rattle.ltx_reader.proofs.ReaderNumbersLemmas.{next_fault}
 
@@ -63,7 +66,8 @@ fields_length (n ∷ numbers) = omega (
 
 -- ---- a file of the format
 
-block_length : (size commit last : ℕ) (block : ℕ × List ℕ) (blocks : Blocks) → AreBlocks size commit last (block ∷ blocks)
+block_length : (size commit last : ℕ) (block : ℕ × List ℕ) (blocks : Blocks)
+    → AreBlocks size commit last (block ∷ blocks)
     → length (page_block block) ≡ 6 + size
 block_length size commit last block blocks are = omega (
   arith,
@@ -221,29 +225,30 @@ module _ (h : LtxHeader) (bytes : List ℕ) where
       → listed_fault h bytes ≡ Some fault
   length_fails fault is = or_left (first_failed (length_tests h bytes)) _ fault is
 
-  module _ (passes : first_failed (length_tests h bytes) ≡ None) (count : ℕ) (counted : count ≡ stored_count bytes) where
-    numbers_here : numbers_fault h 0 (index_numbers h bytes)
-        ≡ numbers_fault h 0 (numbers_from count bytes (index_offset h count))
-    numbers_here = ap (λ k. numbers_fault h 0 (numbers_from k bytes (index_offset h k))) (sym counted)
+  module _ (passes : first_failed (length_tests h bytes) ≡ None) (count : ℕ) (counted : count ≡ stored_count bytes)
+    where
+      numbers_here : numbers_fault h 0 (index_numbers h bytes)
+          ≡ numbers_fault h 0 (numbers_from count bytes (index_offset h count))
+      numbers_here = ap (λ k. numbers_fault h 0 (numbers_from k bytes (index_offset h k))) (sym counted)
 
-    behind_length : listed_fault h bytes ≡ option_or (numbers_fault h 0 (index_numbers h bytes)) (first_failed
-        ((has_all h (stored_count bytes), BadIndex 0) ∷ []))
-    behind_length = or_right (first_failed (length_tests h bytes)) _ passes
+      behind_length : listed_fault h bytes ≡ option_or (numbers_fault h 0 (index_numbers h bytes)) (first_failed
+          ((has_all h (stored_count bytes), BadIndex 0) ∷ []))
+      behind_length = or_right (first_failed (length_tests h bytes)) _ passes
 
-    pub numbers_fails : (fault : LtxFault)
-        → numbers_fault h 0 (numbers_from count bytes (index_offset h count)) ≡ Some fault
-        → listed_fault h bytes ≡ Some fault
-    numbers_fails fault is = behind_length ∙ or_left _ _ fault (numbers_here ∙ is)
+      pub numbers_fails : (fault : LtxFault)
+          → numbers_fault h 0 (numbers_from count bytes (index_offset h count)) ≡ Some fault
+          → listed_fault h bytes ≡ Some fault
+      numbers_fails fault is = behind_length ∙ or_left _ _ fault (numbers_here ∙ is)
 
-    module _ (rises : numbers_fault h 0 (numbers_from count bytes (index_offset h count)) ≡ None) where
-      behind_numbers : listed_fault h bytes ≡ first_failed ((has_all h (stored_count bytes), BadIndex 0) ∷ [])
-      behind_numbers = behind_length ∙ or_right _ _ (numbers_here ∙ rises)
+      module _ (rises : numbers_fault h 0 (numbers_from count bytes (index_offset h count)) ≡ None) where
+        behind_numbers : listed_fault h bytes ≡ first_failed ((has_all h (stored_count bytes), BadIndex 0) ∷ [])
+        behind_numbers = behind_length ∙ or_right _ _ (numbers_here ∙ rises)
 
-      pub part_fails : has_all h count ≡ false → listed_fault h bytes ≡ Some (BadIndex 0)
-      part_fails part = behind_numbers ∙ no_test _ (BadIndex 0) (ap (has_all h) (sym counted) ∙ part)
+        pub part_fails : has_all h count ≡ false → listed_fault h bytes ≡ Some (BadIndex 0)
+        part_fails part = behind_numbers ∙ no_test _ (BadIndex 0) (ap (has_all h) (sym counted) ∙ part)
 
-      pub none_fails : has_all h count ≡ true → listed_fault h bytes ≡ None
-      none_fails all = behind_numbers ∙ one_test _ (BadIndex 0) (ap (has_all h) (sym counted) ∙ all)
+        pub none_fails : has_all h count ≡ true → listed_fault h bytes ≡ None
+        none_fails all = behind_numbers ∙ one_test _ (BadIndex 0) (ap (has_all h) (sym counted) ∙ all)
 
 -- a file of the format has no such fault, and its numbers are those of its change
 pub record IsListed (bytes : List ℕ) (h : LtxHeader) (numbers : List ℕ) : Type 0 where

@@ -8,7 +8,8 @@ use Rattle.ltx_reader.specs.declared.progress.Progress.{Progress}
 use Rattle.ltx_reader.specs.declared.progress.Progress.TheVariants.{Going, AtNumber, Ended, Failed}
 use Rattle.crash_disk.specs.declared.fault.DiskFault.{DiskFault}
 use Rattle.ltx_reader.specs.ReaderGiven.{read_so_far, bytes_to_come, bytes_left}
-use Rattle.ltx_reader.specs.Reader.{HasSameFile, StaysBeforePage, RepeatsNumber, IsAsBefore, Reader, IsReaderOf, next_block, block_offset, read_to}
+use Rattle.ltx_reader.specs.Reader.{HasSameFile, StaysBeforePage, RepeatsNumber, IsAsBefore, Reader, IsReaderOf}
+use Rattle.ltx_reader.specs.Reader.{next_block, block_offset, read_to}
 use Rattle.ltx_reader.specs.ReaderSteps.{Passes, reaches, stopped}
 use Rattle.ltx_reader.proofs.ReaderProgressLemmas.{add_block, page_stops, summed_here}
 

@@ -1,5 +1,6 @@
 -- How a reader goes on: from one block to the next, to a fault, and to the end.
-use Rattle.std.proofs.Common.{◌≡◌, ◌≢◌, ℕ, suc, ◌+◌, ◌-◌, ◌*◌, ◌≤◌, ◌<◌, true, false, ◌==◌, List, ◌∷◌, ◌++◌, take, drop, Some, None, Err, refl, sym, ap, subst, ◌∙◌, arith}
+use Rattle.std.proofs.Common.{◌≡◌, ◌≢◌, ℕ, suc, ◌+◌, ◌-◌, ◌*◌, ◌≤◌, ◌<◌, true, false, ◌==◌, List, ◌∷◌, ◌++◌, take, drop}
+use Rattle.std.proofs.Common.{Some, None, Err, refl, sym, ap, subst, ◌∙◌, arith}
 use Rattle.std.specs.Int.{w32}
 use Rattle.std.proofs.Math.Nat.{add-mul}
 use Rattle.std.proofs.lemmas.Bool.{ne_eqb}
@@ -11,11 +12,13 @@ use Rattle.ltx_reader.specs.declared.read_fault.ReadFault.TheVariants.{Disk, Fau
 use Rattle.ltx_reader.specs.declared.progress.Progress.{Progress}
 use Rattle.ltx_reader.specs.declared.progress.Progress.TheVariants.{Going, AtNumber, Ended}
 use Rattle.ltx_format.specs.FirstFault.{number, page_size, commit, is_next, fault_from}
-use Rattle.ltx_reader.specs.Reader.{Reader, AreBytes, IsSummed, IsFaultlessTo, IsNextNumber, IsReaderOf, Progresses, Announces, next_block, block_offset, read_to, pages_from, pages_to_come, pages_left}
+use Rattle.ltx_reader.specs.Reader.{Reader, AreBytes, IsSummed, IsFaultlessTo, IsNextNumber, IsReaderOf, Progresses}
+use Rattle.ltx_reader.specs.Reader.{Announces, next_block, block_offset, read_to, pages_from, pages_to_come, pages_left}
 use Rattle.ltx_reader.specs.ReaderSteps.{Passes, StandAt, next_fault, reaches, stopped}
 use Rattle.ltx_reader.proofs.ReaderHeaderLemmas.{fields_of}
 use Rattle.ltx_reader.proofs.ReaderIndexLemmas.{summed_more, reached}
-use Rattle.ltx_reader.proofs.ReaderBlockLemmas.{from_stops, from_ends, next_tests, next_is_next, pages_end, pages_next, positive, next_bounds, past_stops, past_goes}
+use Rattle.ltx_reader.proofs.ReaderBlockLemmas.{from_stops, from_ends, next_tests, next_is_next, pages_end, pages_next}
+use Rattle.ltx_reader.proofs.ReaderBlockLemmas.{positive, next_bounds, past_stops, past_goes}
 
 -- ---- to a fault, and to the end
 

@@ -1,8 +1,11 @@
 -- The trailer of a file that is read with the sum up to it.
-use Rattle.std.proofs.Common.{◌≡◌, ◌≢◌, ℕ, ◌+◌, ◌-◌, ◌≤◌, ◌<◌, min, Bool, true, false, if◌then◌else◌, nat_lt, nat_le, ◌==◌, List, [], ◌∷◌, ◌++◌, length, take, drop, Some, None, Result, Ok, Err, refl, sym, ap, subst, ◌∙◌, arith}
+use Rattle.std.proofs.Common.{◌≡◌, ◌≢◌, ℕ, ◌+◌, ◌-◌, ◌≤◌, ◌<◌, min, Bool, true, false, if◌then◌else◌, nat_lt, nat_le}
+use Rattle.std.proofs.Common.{◌==◌, List, [], ◌∷◌, ◌++◌, length, take, drop, Some, None, Result, Ok, Err, refl, sym, ap}
+use Rattle.std.proofs.Common.{subst, ◌∙◌, arith}
 use Rattle.std.specs.Int.{Width, w64, byte_len, from_be_bytes}
 use Rattle.std.proofs.lemmas.Bool.{le-leb, lt-leb, eq-eqb, ne_eqb, eqb-true, ltb-false, ltb-true}
-use Rattle.std.proofs.lemmas.List.{take-take, drop-take, drop-drop, length-take, length-drop, take_all, take-append-drop}
+use Rattle.std.proofs.lemmas.List.{take-take, drop-take, drop-drop, length-take, length-drop, take_all}
+use Rattle.std.proofs.lemmas.List.{take-append-drop}
 use Rattle.ls_sums.specs.Crc64.{IsBehind}
 use Rattle.ltx_format.specs.declared.fault.LtxFault.{LtxFault}
 use Rattle.ltx_format.specs.declared.fault.LtxFault.TheVariants.{Short, BadReserved, BadSum, Extra}

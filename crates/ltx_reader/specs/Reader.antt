@@ -1,5 +1,7 @@
 -- A reader that goes through a file page by page: what it has read, and what it will give.
-use Rattle.std.specs.Prelude.{◌≡◌, ℕ, zero, suc, ◌+◌, ◌-◌, ◌*◌, ◌^◌, ◌<◌, ◌≤◌, List, [], ◌∷◌, length, take, drop, Option, Some, None, Result, Ok, Err, slice_index, unwrap_or, ◌==◌, if◌then◌else◌, ⊤, IsTrue}
+use Rattle.std.specs.Prelude.{◌≡◌, ℕ, zero, suc, ◌+◌, ◌-◌, ◌*◌, ◌^◌, ◌<◌, ◌≤◌, List, [], ◌∷◌, length, take, drop}
+use Rattle.std.specs.Prelude.{Option, Some, None, Result, Ok, Err, slice_index, unwrap_or, ◌==◌, if◌then◌else◌, ⊤}
+use Rattle.std.specs.Prelude.{IsTrue}
 use Rattle.std.specs.Int.{w32}
 use Rattle.std.specs.FinMap.{entries}
 use Rattle.ls_sums.specs.Crc64.{IsBehind}
@@ -14,7 +16,8 @@ use Rattle.ltx_reader.specs.declared.read_fault.ReadFault.TheVariants.{Disk, Fau
 use Rattle.ltx_reader.specs.declared.progress.Progress.{Progress}
 use Rattle.ltx_reader.specs.declared.progress.Progress.TheVariants.{Going, AtNumber, Ended, Failed}
 use Rattle.ltx_format.specs.LtxFormat.{HasHeader, IsLtxFile}
-use Rattle.ltx_format.specs.FirstFault.{number, commit, page_size, first_failed, block_tests, is_next, fault_from, first_fault}
+use Rattle.ltx_format.specs.FirstFault.{number, commit, page_size, first_failed, block_tests, is_next, fault_from}
+use Rattle.ltx_format.specs.FirstFault.{first_fault}
 
 -- ---- the bytes of a file
 

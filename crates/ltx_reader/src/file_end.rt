@@ -2,7 +2,8 @@
 
 ghost use Rattle.std.specs.Prelude.{◌≡◌, ℕ, List, ◌+◌, ◌-◌, ◌*◌, ◌<◌, ◌≤◌, ◌^◌, min, length, IfOk, IsErrOf};
 ghost use Rattle.ltx_reader.specs.declared.read_fault.ReadFault.TheVariants as fault;
-ghost use Rattle.ltx_format.specs.FirstFault.{first_failed, trailer_tests, entry_tests, index_fault, tail_fault, end_fault, is_whole};
+ghost use Rattle.ltx_format.specs.FirstFault.{first_failed, trailer_tests, entry_tests, index_fault, tail_fault};
+ghost use Rattle.ltx_format.specs.FirstFault.{end_fault, is_whole};
 ghost use Rattle.ltx_format.specs.LtxFormat.{HasHeader};
 ghost use Rattle.ltx_reader.specs.Reader as spec;
 ghost use Rattle.ltx_reader.specs.Reader.{OfBytes, AreBytes, IsSummed, next_block};

@@ -10,7 +10,8 @@ ghost use Rattle.ltx_reader.specs.Reader.{OfBytes};
 ghost use Rattle.ltx_reader.specs.ReaderCause.{ReadHasCause};
 ghost use Rattle.ltx_reader.specs.ReaderGiven.{GivesAtMost};
 ghost use Rattle.ltx_reader.specs.ReaderIndex as spec;
-ghost use Rattle.ltx_reader.specs.ReaderIndex.{AreStored, stored_count, index_numbers, listed_fault, numbers_from, numbers_fault, length_tests};
+ghost use Rattle.ltx_reader.specs.ReaderIndex.{AreStored, stored_count, index_numbers, listed_fault, numbers_from};
+ghost use Rattle.ltx_reader.specs.ReaderIndex.{numbers_fault, length_tests};
 ghost use Rattle.ltx_reader.specs.ReaderSteps.{Passes};
 
 use crate::block_front::{FRONT_BYTES, four_at};

@@ -7,10 +7,12 @@ ghost use Rattle.ltx_reader.specs.declared.read_fault.ReadFault.TheVariants as f
 ghost use Rattle.ls_sums.specs.Crc64.{IsBehind};
 ghost use Rattle.ltx_format.specs.FirstFault as spec;
 ghost use Rattle.ltx_format.specs.LtxFormat.{HasHeader};
-ghost use Rattle.ltx_reader.specs.Reader.{OfBytes, IsReaderOf, IsFaultlessTo, HasSameFile, StaysBeforePage, Stops, Waits, next_block};
+ghost use Rattle.ltx_reader.specs.Reader.{OfBytes, IsReaderOf, IsFaultlessTo, HasSameFile, StaysBeforePage, Stops};
+ghost use Rattle.ltx_reader.specs.Reader.{Waits, next_block};
 ghost use Rattle.ltx_reader.specs.ReaderCause.{ReadHasCause};
 ghost use Rattle.ltx_reader.specs.ReaderGiven.{GivesAtMost, bytes_again, read_so_far, bytes_left};
-ghost use Rattle.ltx_reader.specs.ReaderSteps.{Passes, IsNext, StandAt, IsAboveOrEnd, IfAnnounced, stopped, after_page_read, next_fault, reaches};
+ghost use Rattle.ltx_reader.specs.ReaderSteps.{Passes, IsNext, StandAt, IsAboveOrEnd, IfAnnounced, stopped};
+ghost use Rattle.ltx_reader.specs.ReaderSteps.{after_page_read, next_fault, reaches};
 
 use crate::block_front::{FRONT_BYTES, front_at};
 use crate::filling::fill;

@@ -1,7 +1,8 @@
 //! Why a file on a disk could not be read.
 
 ghost use Rattle.std.specs.Prelude.{◌≡◌};
-ghost use Rattle.ltx_reader.specs.declared.read_fault.ReadFault.TheVariants.{Disk as of_disk, Fault as of_file, Memory as want};
+ghost use Rattle.ltx_reader.specs.declared.read_fault.ReadFault.TheVariants.{Disk as of_disk, Fault as of_file};
+ghost use Rattle.ltx_reader.specs.declared.read_fault.ReadFault.TheVariants.{Memory as want};
 
 use crash_disk::DiskFault;
 use ltx_format::LtxFault;

@@ -5,7 +5,9 @@ ghost use Rattle.ltx_format.specs.LtxFormat.{IsHeader};
 ghost use Rattle.ltx_reader.specs.declared.progress.Progress.TheVariants as progress;
 ghost use Rattle.ltx_reader.specs.declared.read_fault.ReadFault.TheVariants as fault;
 ghost use Rattle.crash_disk.specs.declared.fault.DiskFault.{DiskFault};
-ghost use Rattle.ltx_reader.specs.Reader.{OfBytes, IsReaderOf, Announces, Gives, TellsFault, IsAsBefore, HasSameFile, StaysBeforePage, Stops, Waits, Repeats, RepeatsNumber, IfKnown, steps_of, pages_left, pages_of};
+ghost use Rattle.ltx_reader.specs.Reader.{OfBytes, IsReaderOf, Announces, Gives, TellsFault, IsAsBefore, HasSameFile};
+ghost use Rattle.ltx_reader.specs.Reader.{StaysBeforePage, Stops, Waits, Repeats, RepeatsNumber, IfKnown, steps_of};
+ghost use Rattle.ltx_reader.specs.Reader.{pages_left, pages_of};
 ghost use Rattle.ltx_reader.specs.ReaderGiven.{GivesAtMost, HasCounted, read_so_far, bytes_left};
 ghost use Rattle.ltx_reader.specs.ReaderCause.{ReadHasCause};
 

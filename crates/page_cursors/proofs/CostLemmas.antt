@@ -1,5 +1,6 @@
 -- What the steps of readers cost.
-use Rattle.std.proofs.Common.{◌≡◌, ◌≢◌, ℕ, zero, suc, ◌+◌, ◌-◌, ◌*◌, ◌^◌, ◌≤◌, ◌<◌, Bool, true, false, min, List, [], ◌∷◌, ◌++◌}
+use Rattle.std.proofs.Common.{◌≡◌, ◌≢◌, ℕ, zero, suc, ◌+◌, ◌-◌, ◌*◌, ◌^◌, ◌≤◌, ◌<◌, Bool, true, false, min, List, []}
+use Rattle.std.proofs.Common.{◌∷◌, ◌++◌}
 use Rattle.std.proofs.Common.{length, take, drop, Option, Some, None, refl, sym, ap, subst, ◌∙◌, inl, inr, arith}
 use Rattle.std.specs.Prelude.{◌⊎◌, Result, Ok, Err, if◌then◌else◌, slice_get, slice_set}
 use Rattle.crash_disk.specs.Told.{gives}
@@ -281,7 +282,8 @@ opened_takes bytes reader x y is going count left gave =
     let at : next_block reader ≡ 100 = ap (block_offset reader.header) count
     ∙ (let here : 100 + 0 * (6 + reader.header.size) ≡ 100 = omega arith in here) in
     let inside = going_inside bytes reader is going in
-    let after : cost_left bytes reader ≡ cost_from bytes reader (next_block reader) = ap (cost_by bytes reader) going in (
+    let after : cost_left bytes reader ≡ cost_from bytes reader (next_block reader) = ap (cost_by bytes reader) going
+    in (
       subst (λ (p : Progress). CountsWithin (length (pages_of bytes)) reader.count (length (pages_left bytes reader)) p)
           (sym going) (omega (arith, count, ap length left)),
       subst (λ (c : Cost). Takes (file_cost bytes) c 0 0 x y) (sym after)
@@ -292,4 +294,5 @@ opened_takes bytes reader x y is going count left gave =
 -- or at most the file, where none was opened
 pub unopened_takes : (bytes : List ℕ) (x y : Option ℕ) → GivesAtMost (length bytes) x y
     → Takes (file_cost bytes) nothing 0 0 x y
-unopened_takes bytes x y gave = takes_gave (file_cost bytes) nothing 0 0 (length bytes) x y gave (omega arith) (omega arith)
+unopened_takes bytes x y gave = takes_gave (file_cost bytes) nothing 0 0 (length bytes) x y gave (omega arith)
+    (omega arith)

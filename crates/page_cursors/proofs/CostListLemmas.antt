@@ -75,7 +75,8 @@ take-set xs zero v = refl
 take-set [] (suc place) v = refl
 take-set (x ∷ xs) (suc place) v = ap (λ rest. x ∷ rest) (take-set xs place v)
 
-pub drop-set : {X : Type 0} (xs : List X) (place : ℕ) (v : X) → drop (suc place) (slice_set xs place v) ≡ drop (suc place) xs
+pub drop-set : {X : Type 0} (xs : List X) (place : ℕ) (v : X)
+    → drop (suc place) (slice_set xs place v) ≡ drop (suc place) xs
 drop-set [] place v = refl
 drop-set (x ∷ xs) zero v = refl
 drop-set (x ∷ xs) (suc place) v = drop-set xs place v
@@ -111,8 +112,12 @@ takes-drop files cursors place old moved s t x y is takes =
     let here = drop-at cursors place old is in
     let rest = drop-set cursors place moved in
     let one : suc place ≡ place + 1 = omega arith in
-    subst (λ (n : ℕ). Takes (left_of_all files (drop place cursors)) (left_of_all files (drop n (slice_set cursors place moved))) s t x y) one (subst (λ (cs : List Cursor). Takes (left_of_all files cs) (left_of_all files (drop (suc place) (slice_set cursors place moved))) s t x y) (sym here)
-    (subst (λ (cs : List Cursor). Takes (left_of_all files (old ∷ drop (suc place) cursors)) (left_of_all files cs) s t x y) (sym rest)
+    subst (λ (n : ℕ). Takes (left_of_all files (drop place cursors))
+    (left_of_all files (drop n (slice_set cursors place moved))) s t x y) one
+    (subst (λ (cs : List Cursor). Takes (left_of_all files cs)
+    (left_of_all files (drop (suc place) (slice_set cursors place moved))) s t x y) (sym here)
+    (subst (λ (cs : List Cursor). Takes (left_of_all files (old ∷ drop (suc place) cursors)) (left_of_all files cs) s
+    t x y) (sym rest)
     (takes_by (left_of files old) nothing _ _ s t s t x y takes (omega arith) (omega arith))))
 
 -- or only a part of it, and then nothing more is read
@@ -128,7 +133,8 @@ takes-drop_all files cursors place old s t x y is takes =
 
 cost_same : (a b : Cost) → a.blocks ≡ b.blocks → a.bytes ≡ b.bytes → a ≡ b
 cost_same a b blocks bytes =
-    ap (λ (n : ℕ). record { blocks = n; bytes = a.bytes }) blocks ∙ ap (λ (n : ℕ). record { blocks = b.blocks; bytes = n }) bytes
+    ap (λ (n : ℕ). record { blocks = n; bytes = a.bytes }) blocks
+    ∙ ap (λ (n : ℕ). record { blocks = b.blocks; bytes = n }) bytes
 
 pub left-push : (files : Files) (cursors : List Cursor) (cursor : Cursor)
     → left_of_all files (cursors ++ cursor ∷ []) ≡ both (left_of_all files cursors) (left_of files cursor)
@@ -144,14 +150,17 @@ pub opened_more : (files : Files) (plan : List FileName) (at : ℕ) (cursors : L
     (cursor : Cursor) (x y z : Option ℕ) → slice_get plan at ≡ Some name
     → Takes (plan_cost files plan) (both (left_of_all files cursors) (plan_cost files (drop at plan))) 0 0 x y
     → Takes (file_cost (bytes_of files name)) (left_of files cursor) 0 0 y z
-    → Takes (plan_cost files plan) (both (left_of_all files (cursors ++ cursor ∷ [])) (plan_cost files (drop (suc at) plan))) 0 0 x z
+    → Takes (plan_cost files plan)
+    (both (left_of_all files (cursors ++ cursor ∷ [])) (plan_cost files (drop (suc at) plan))) 0 0 x z
 opened_more files plan at cursors name cursor x y z is before here =
     let rest = drop-at plan at name is in
     let pushed = left-push files cursors cursor in
     let blocks = ap (λ (k : Cost). k.blocks) pushed in
     let bytes = ap (λ (k : Cost). k.bytes) pushed in
-    let same : plan_cost files (drop at plan) ≡ both (file_cost (bytes_of files name)) (plan_cost files (drop (suc at) plan)) = ap (plan_cost files) rest in
-    takes_then (plan_cost files plan) (both (left_of_all files cursors) (plan_cost files (drop at plan))) _ 0 0 0 x y z before
+    let same : plan_cost files (drop at plan) ≡ both (file_cost (bytes_of files name))
+    (plan_cost files (drop (suc at) plan)) = ap (plan_cost files) rest in
+    takes_then (plan_cost files plan) (both (left_of_all files cursors) (plan_cost files (drop at plan))) _ 0 0 0 x y
+    z before
     (takes_by (file_cost (bytes_of files name)) (left_of files cursor) _ _ 0 0 0 0 y z here
     (omega (arith, ap (λ (k : Cost). k.blocks) same, blocks)) (omega (arith, ap (λ (k : Cost). k.bytes) same, bytes)))
 
@@ -163,8 +172,10 @@ pub opened_odd_cost : (files : Files) (plan : List FileName) (at : ℕ) (cursors
     → Takes (plan_cost files plan) (both (left_of_all files cursors) odd) 0 0 x z
 opened_odd_cost files plan at cursors name odd x y z is before here =
     let rest = drop-at plan at name is in
-    let same : plan_cost files (drop at plan) ≡ both (file_cost (bytes_of files name)) (plan_cost files (drop (suc at) plan)) = ap (plan_cost files) rest in
-    takes_then (plan_cost files plan) (both (left_of_all files cursors) (plan_cost files (drop at plan))) _ 0 0 0 x y z before
+    let same : plan_cost files (drop at plan) ≡ both (file_cost (bytes_of files name))
+    (plan_cost files (drop (suc at) plan)) = ap (plan_cost files) rest in
+    takes_then (plan_cost files plan) (both (left_of_all files cursors) (plan_cost files (drop at plan))) _ 0 0 0 x y
+    z before
     (takes_by (file_cost (bytes_of files name)) odd _ _ 0 0 0 0 y z here
     (omega (arith, ap (λ (k : Cost). k.blocks) same)) (omega (arith, ap (λ (k : Cost). k.bytes) same)))
 

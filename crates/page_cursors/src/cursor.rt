@@ -83,7 +83,8 @@ pub fn give_at<S: Disk, L: Ledger>(
     ensures spends { IfErr result (λ _. IfTold (S.told store.old) (λ events. AreCounted (files_after events) cursors.old
         → AreCounted (files_after events) (take place cursors.new)
         × Takes (left_of_all (files_after events) cursors.old)
-        (left_of_all (files_after events) (take place cursors.new)) steps.old steps.new (S.given store.old) (S.given store.new))) }
+        (left_of_all (files_after events) (take place cursors.new)) steps.old steps.new (S.given store.old)
+        (S.given store.new))) }
     ensures no_memory { IsErrOf result fault.Memory → ⊥ }
     ensures unchanged { S.told store.new ≡ S.told store.old }
     ensures same_folder { S.folder store.new ≡ S.folder store.old }

@@ -1,5 +1,6 @@
 -- The text of a moment. This project's rule, after RFC 3339.
-use Rattle.std.specs.Prelude.{ℕ, zero, suc, ◌+◌, ◌/◌, ◌%◌, List, ◌++◌, codes, decimal, pos, nat_lt, nat_le, if◌then◌else◌}
+use Rattle.std.specs.Prelude.{ℕ, zero, suc, ◌+◌, ◌/◌, ◌%◌, List, ◌++◌, codes, decimal, pos, nat_lt, nat_le}
+use Rattle.std.specs.Prelude.{if◌then◌else◌}
 use Rattle.jiff_core.specs.Calendar.{days_in_month}
 use Rattle.replica_listing.specs.Digits.{digits}
 

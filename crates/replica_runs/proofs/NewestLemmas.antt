@@ -1,5 +1,6 @@
 -- The newest transaction of a list of files, and the line of it.
-use Rattle.std.proofs.Common.{◌≡◌, ℕ, zero, suc, ◌<◌, ◌≤◌, List, [], ◌∷◌, length, get_or, Bool, true, false, Option, Some, None, refl, sym, ap, subst, ◌∙◌, inl, inr, arith}
+use Rattle.std.proofs.Common.{◌≡◌, ℕ, zero, suc, ◌<◌, ◌≤◌, List, [], ◌∷◌, length, get_or, Bool, true, false, Option}
+use Rattle.std.proofs.Common.{Some, None, refl, sym, ap, subst, ◌∙◌, inl, inr, arith}
 use Rattle.std.specs.Prelude.{◌==◌, if◌then◌else◌, unwrap_or}
 use Rattle.std.specs.FinMap.{get}
 use Rattle.std.specs.List.{Contains}
@@ -106,7 +107,8 @@ none_ends (x ∷ xs) t (suc k) d none within is =
 pub newest_is_found : (names : List FileName) → 1 ≤ newest_of names → first_ending names (newest_of names) ≡ None → ⊥
 newest_is_found names some none =
     let found = attained names some in
-    none_ends names (newest_of names) found.1.0 found.0 none found.1.1 (ap (λ (n : FileName). n.max) found.1.2 ∙ found.2)
+    none_ends names (newest_of names) found.1.0 found.0 none found.1.1
+    (ap (λ (n : FileName). n.max) found.1.2 ∙ found.2)
 
 -- ---- files that tell the truth
 
@@ -140,7 +142,8 @@ module _ (files : Files) (history : History) (log : SyncLog) (faithful : IsFaith
     (names : List FileName) (are : AreListed files names) where
   newest_is_last : newest_of names ≡ length log
   newest_is_last =
-      let up = newest_least names (length log) (λ name has. faithful.within name (listed_in files names are name has)) in
+      let up = newest_least names (length log) (λ name has. faithful.within name (listed_in files names are name has))
+      in
       elim (cases_lt 0 (length log)) [
         | inl some ↦
             let last = faithful.reached some in

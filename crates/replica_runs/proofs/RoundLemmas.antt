@@ -1,5 +1,6 @@
 -- How a run goes from one round to the next, and how it ends.
-use Rattle.std.proofs.Common.{◌≡◌, ℕ, ◌+◌, List, [], ◌∷◌, ◌++◌, length, refl, sym, ap, subst, ◌∙◌, append_assoc, append-nil, arith}
+use Rattle.std.proofs.Common.{◌≡◌, ℕ, ◌+◌, List, [], ◌∷◌, ◌++◌, length, refl, sym, ap, subst, ◌∙◌, append_assoc}
+use Rattle.std.proofs.Common.{append-nil, arith}
 use Rattle.crash_disk.proofs.GoesOnLemmas.{grown_then}
 use Rattle.ls_base.specs.SyncLog.{SyncLog}
 use Rattle.replica_store.proofs.CarryLemmas.{carries_on_then, none_new}
@@ -54,13 +55,14 @@ runs_outlast_moves history more cut settled now rounds log ended run =
     }
 
 pub one_more_round : OneMoreRound
-one_more_round history cut settled mid now rounds round log ended later up on run adds carries settles retains = record {
-  records = one_more_recorded rounds round log ended later run.records adds;
-  carries = carries_on_then history cut settled mid now log ended later up on run.carries carries;
-  settles = settles;
-  retains = new_ones_join now log ended later
-      (new_ones_stay history cut settled mid now log ended later on run.carries run.retains carries) retains;
-}
+one_more_round history cut settled mid now rounds round log ended later up on run adds carries settles retains =
+    record {
+      records = one_more_recorded rounds round log ended later run.records adds;
+      carries = carries_on_then history cut settled mid now log ended later up on run.carries carries;
+      settles = settles;
+      retains = new_ones_join now log ended later
+          (new_ones_stay history cut settled mid now log ended later on run.carries run.retains carries) retains;
+    }
 
 pub runs_end : RunsEnd
 runs_end old more cut before settled now rounds log later up on synced run = record {
@@ -73,7 +75,8 @@ runs_end old more cut before settled now rounds log later up on synced run = rec
 }
 
 pub runs_are_refused : RunsAreRefused
-runs_are_refused old more cut before settled mid now rounds log ended later up on further synced run one carries faithful =
+runs_are_refused old more cut before settled mid now rounds log ended later up on further synced run one carries
+    faithful =
     let all = carries_on_then (old ++ more) cut settled mid now log ended later on further run.carries carries in
     let since = grown_then settled mid now on further in
     record {
@@ -101,6 +104,7 @@ runs_are_refused_at_once old more cut before log faithful =
       one = omega arith;
       keeps = keeps;
       faithful = still;
-      extends = faithful_files_extend _ (old ++ more) log log still.files keeps.lines (λ t above within. none_new log t above within);
+      extends = faithful_files_extend _ (old ++ more) log log still.files keeps.lines
+          (λ t above within. none_new log t above within);
       retains = λ t above within. none_new log t above within;
     }

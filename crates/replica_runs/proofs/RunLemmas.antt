@@ -113,7 +113,8 @@ runs_join first second between more cut a b c log mid later up on one two = reco
       let within = (line_within log t young.line young.is).1 in
       elim (since_split b c (length a) image on was) [
         | inl late ↦ two.kept t (young_longer log mid cut t one.lines within young)
-            (λ left crash. one.kept t young had left (since_now b (length a) left (grown_longer a b up) crash)) image late
+            (λ left crash. one.kept t young had left (since_now b (length a) left (grown_longer a b up) crash)) image
+            late
         | inr early ↦ one.kept t young had image early
       ];
 }

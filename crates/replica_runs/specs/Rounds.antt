@@ -34,7 +34,8 @@ RecordsRounds (round ∷ rounds) log later =
 
 -- ---- where a run is
 
--- Behind some rounds: the log that they recorded, and the replica is ready for the next one. The run settled the replica
+-- Behind some rounds: the log that they recorded, and the replica is ready for the next one. The run settled the
+-- replica
 -- before its first round.
 pub record HasRun
     (history : History) (cut : ℕ) (settled now : List Event) (rounds : List Round) (log ended : SyncLog) : Type 0

@@ -32,18 +32,27 @@ nothing events None is = refl
 nothing events (Some bytes) is = absurd is
 
 -- a removed name may be gone
-removed_here : (events : List Event) (path : List ℕ) (file : Option (List ℕ)) → MayStandAt (Removed path ∷ events) path file → MayStandAt events path file ⊎ (file ≡ None)
+removed_here : (events : List Event) (path : List ℕ) (file : Option (List ℕ))
+    → MayStandAt (Removed path ∷ events) path file → MayStandAt events path file ⊎ (file ≡ None)
 unfolding numbers_at file_of
 removed_here events path file is =
     let now = Removed path ∷ events in
-    let one = subst (SomeOf (λ number. IsImageOf now number file)) (at_name path (None ∷ numbers_at events path) (numbers_at events path)) is.one in
+    let one = subst (SomeOf (λ number. IsImageOf now number file))
+    (at_name path (None ∷ numbers_at events path) (numbers_at events path)) is.one in
     ⊎_elim (λ gone. inr (nothing now file gone))
-    (λ old. inl (record { one = SomeOf-weaken (λ number. IsImageOf now number file) (λ number. IsImageOf events number file) (numbers_at events path) (λ number _ image. same_image now events number file (λ n _. refl) image) old })) one
+    (λ old. inl (record {
+      one = SomeOf-weaken (λ number. IsImageOf now number file)
+          (λ number. IsImageOf events number file) (numbers_at events path)
+          (λ number _ image. same_image now events number file (λ n _. refl) image) old;
+    })) one
 
-removed_stands : (events : List Event) (path q : List ℕ) (file : Option (List ℕ)) → MayStandAt (Removed path ∷ events) q file → MayStandAt events q file ⊎ ((q ≡ path) × (file ≡ None))
+removed_stands : (events : List Event) (path q : List ℕ) (file : Option (List ℕ))
+    → MayStandAt (Removed path ∷ events) q file → MayStandAt events q file ⊎ ((q ≡ path) × (file ≡ None))
 removed_stands events path q file is =
     by_names q path
-    (λ same. ⊎_elim (λ old. inl (subst (λ x. MayStandAt events x file) (sym same) old)) (λ none. inr (same, none)) (removed_here events path file (subst (λ x. MayStandAt (Removed path ∷ events) x file) same is)))
+    (λ same. ⊎_elim (λ old. inl (subst (λ x. MayStandAt events x file) (sym same) old))
+    (λ none. inr (same, none)) (removed_here events path file
+    (subst (λ x. MayStandAt (Removed path ∷ events) x file) same is)))
     (λ other. inl (MayStandAt-Removed-other events path q file other is))
 
 not_dropped : (path : List ℕ) (events : List Event) → MayDrop path events events
@@ -70,4 +79,5 @@ pub dropped : (old new : Told) (path : List ℕ) → new ≡ gains old (Removed 
 dropped old new path is = goes_on-gains old new (Removed path) (HasDropped path) is (has_dropped path)
 
 pub may_drop : (old new : Told) (path : List ℕ) → GainsOrNot old new (Removed path) → GoesOn old new (MayDrop path)
-may_drop old new path may = goes_on-either old new (Removed path) (MayDrop path) may (not_dropped path) (λ events. (has_dropped path events).may)
+may_drop old new path may = goes_on-either old new (Removed path) (MayDrop path) may (not_dropped path)
+    (λ events. (has_dropped path events).may)

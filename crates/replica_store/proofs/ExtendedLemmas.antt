@@ -1,5 +1,6 @@
 -- The log that files tell.
-use Rattle.std.proofs.Common.{◌≡◌, ℕ, suc, ◌<◌, ◌≤◌, List, [], ◌++◌, length, take, replicate, Option, Some, sym, ap, subst, ◌∙◌, inl, inr, length-append, arith}
+use Rattle.std.proofs.Common.{◌≡◌, ℕ, suc, ◌<◌, ◌≤◌, List, [], ◌++◌, length, take, replicate, Option, Some, sym, ap}
+use Rattle.std.proofs.Common.{subst, ◌∙◌, inl, inr, length-append, arith}
 use Rattle.std.specs.Prelude.{unwrap_or}
 use Rattle.std.specs.FinMap.{get, keys}
 use Rattle.std.specs.List.{slice_get}
@@ -42,17 +43,21 @@ begins_with_header bytes h c is = record {
   spelled =
       let index = index_part h.index (keys c.pages) in
       ap (take 100) is.spelled
-      ∙ front 100 (header_bytes h) (page_blocks c.pages) (replicate 6 0) index (replicate 8 0) _ (sym (header-length h));
+      ∙ front 100 (header_bytes h) (page_blocks c.pages) (replicate 6 0) index (replicate 8 0) _
+      (sym (header-length h));
 }
 
 -- what a faithful file under a name tells
-tells : (files : Files) (history : History) (log : SyncLog) (name : FileName) (bytes : List ℕ) → get files (path_of name) ≡ Some bytes → IsFaithfulFile history log name.min name.max bytes
-    → (header : LtxHeader) × IsHeaderUnder files name header × (line_of log name.max ≡ Some (record { place = header.place; moment = header.moment }))
+tells : (files : Files) (history : History) (log : SyncLog) (name : FileName) (bytes : List ℕ)
+    → get files (path_of name) ≡ Some bytes → IsFaithfulFile history log name.min name.max bytes
+    → (header : LtxHeader) × IsHeaderUnder files name header
+    × (line_of log name.max ≡ Some (record { place = header.place; moment = header.moment }))
 tells files history log name bytes there is =
     let under : bytes_under files (path_of name) ≡ bytes = ap (λ (file : Option (List ℕ)). unwrap_or file []) there in (
       is.header,
       record {
-        has = subst (λ (b : List ℕ). HasHeader b is.header) (sym under) (begins_with_header bytes is.header is.change is.file.file);
+        has = subst (λ (b : List ℕ). HasHeader b is.header) (sym under)
+            (begins_with_header bytes is.header is.change is.file.file);
         from_min = is.file.from_min;
         to_max = is.file.to_max;
       },
@@ -64,7 +69,8 @@ faithful_files_extend files history log later faithful longer some = record {
   lines = longer;
   within = faithful.within;
   some = some;
-  each = λ name there new. there_with (get files (path_of name)) there.there (λ bytes found. tells files history later name bytes found (faithful.each name bytes there.valid found));
+  each = λ name there new. there_with (get files (path_of name)) there.there
+      (λ bytes found. tells files history later name bytes found (faithful.each name bytes there.valid found));
 }
 
 module _ (log : SyncLog) (files : Files) where
@@ -77,18 +83,22 @@ module _ (log : SyncLog) (files : Files) where
         | inr old ↦ let up = longer_by log b second.lines in omega (arith, old, up)
       ]
 
-  same_line : (a b : SyncLog) → IsExtendedBy log files a → IsExtendedBy log files b → (k : ℕ) → k < length a → slice_get a k ≡ slice_get b k
+  same_line : (a b : SyncLog) → IsExtendedBy log files a → IsExtendedBy log files b → (k : ℕ) → k < length a
+      → slice_get a k ≡ slice_get b k
   same_line a b first second k within =
       elim (cases_lt k (length log)) [
-        | inl old ↦ line_of-longer log a (suc k) first.lines (omega (arith, old)) ∙ sym (line_of-longer log b (suc k) second.lines (omega (arith, old)))
+        | inl old ↦ line_of-longer log a (suc k) first.lines (omega (arith, old))
+            ∙ sym (line_of-longer log b (suc k) second.lines (omega (arith, old)))
         | inr new ↦
             let file = first.some (suc k) (omega (arith, new)) (omega (arith, within)) in
             let name = file.0 in
             let above : length log < name.max = omega (arith, new, file.2) in
             let here = first.each name file.1 above in
             let there = second.each name file.1 above in
-            let one : here.0 ≡ there.0 = same_header (bytes_under files (path_of name)) here.0 there.0 here.1.has there.1.has in
-            ap (line_of a) (sym file.2) ∙ here.2 ∙ ap (λ (h : LtxHeader). Some (line_in h)) one ∙ sym there.2 ∙ ap (line_of b) file.2
+            let one : here.0 ≡ there.0 = same_header (bytes_under files (path_of name)) here.0 there.0 here.1.has
+            there.1.has in
+            ap (line_of a) (sym file.2) ∙ here.2 ∙ ap (λ (h : LtxHeader). Some (line_in h)) one ∙ sym there.2
+            ∙ ap (line_of b) file.2
       ]
 
 pub one_extension : OneExtension

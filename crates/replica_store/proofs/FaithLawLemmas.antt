@@ -1,5 +1,6 @@
 -- A replica can be faithful.
-use Rattle.std.proofs.Common.{◌≡◌, ◌≢◌, ℕ, zero, suc, ◌≤◌, Bool, true, false, List, [], ◌∷◌, get_or, Option, Some, None, refl, sym, ap, subst, ◌∙◌, inl, inr, arith}
+use Rattle.std.proofs.Common.{◌≡◌, ◌≢◌, ℕ, zero, suc, ◌≤◌, Bool, true, false, List, [], ◌∷◌, get_or, Option, Some, None}
+use Rattle.std.proofs.Common.{refl, sym, ap, subst, ◌∙◌, inl, inr, arith}
 use Rattle.std.specs.Prelude.{◌==◌, IsSome, is_some}
 use Rattle.std.specs.Cmp.Lexicographic.{slice_cmp, nat_list_cmp_total}
 use Rattle.std.specs.FinMap.{get, empty, insert, get-empty, get-insert}
@@ -22,7 +23,8 @@ use Rattle.ltx_format.specs.LtxFormat.{IsStored}
 use Rattle.ltx_format.specs.declared.header.LtxHeader.{LtxHeader}
 use Rattle.replica_store.specs.declared.file_name.FileName.{FileName}
 use Rattle.replica_store.specs.Faithful.{MayFollow, TurnsInto, IsFaithfulFile, IsFaithful}
-use Rattle.replica_store.specs.FaithLaws.{line_in, with_whole, with_piece, state_after, EmptyIsFaithful, WholeIsFaithful, PieceIsFaithful}
+use Rattle.replica_store.specs.FaithLaws.{line_in, with_whole, with_piece, state_after, EmptyIsFaithful}
+use Rattle.replica_store.specs.FaithLaws.{WholeIsFaithful, PieceIsFaithful}
 use Rattle.replica_store.specs.FileOf.{IsFileOf}
 use Rattle.replica_store.specs.Listing.{path_of, IsFilePath, IsValid, IsIn}
 use Rattle.replica_store.specs.NameText.{whole_path, file_path}
@@ -34,12 +36,15 @@ or_twice : (o p : Option (List ℕ)) → option_or o (option_or o p) ≡ option_
 or_twice None p = refl
 or_twice (Some page) p = refl
 
-again_where : (b : Bool) (s t : State) (c : Change) (p : ℕ) → page_of t p ≡ page_where b s c p → page_where b t c p ≡ page_where b s c p
+again_where : (b : Bool) (s t : State) (c : Change) (p : ℕ) → page_of t p ≡ page_where b s c p
+    → page_where b t c p ≡ page_where b s c p
 again_where true s t c p is = refl
 again_where false s t c p is = ap (option_or (get c.pages p)) is ∙ or_twice (get c.pages p) (page_of s p)
 
-again_page : (s : State) (c : Change) (p : ℕ) → IsApplicable s c → 1 ≤ p → p ≤ c.commit → page_after (apply s c) c p ≡ page_after s c p
-again_page s c p fits low high = again_where (p == lock_page c.page_size) s (apply s c) c p (page_of-apply s c p fits low high)
+again_page : (s : State) (c : Change) (p : ℕ) → IsApplicable s c → 1 ≤ p → p ≤ c.commit
+    → page_after (apply s c) c p ≡ page_after s c p
+again_page s c p fits low high = again_where (p == lock_page c.page_size) s (apply s c) c p
+    (page_of-apply s c p fits low high)
 
 same_size : (a b : ℕ) → ◌≡◌ {A = Option ℕ} (Some a) (Some b) → b ≡ a
 same_size a b e = cc
@@ -55,7 +60,8 @@ apply_again s c fits =
     same_states (apply (apply s c) c) (apply s c) refl (length-apply (apply s c) c ∙ sym (length-apply s c))
     (λ p low within.
     let high : p ≤ c.commit = omega (arith, within, length-apply (apply s c) c) in
-    page_of-apply (apply s c) c p (applies_again s c fits) low high ∙ again_page s c p fits low high ∙ sym (page_of-apply s c p fits low high))
+    page_of-apply (apply s c) c p (applies_again s c fits) low high ∙ again_page s c p fits low high
+    ∙ sym (page_of-apply s c p fits low high))
 
 -- ---- a file of the whole database fits nothing before it
 
@@ -112,26 +118,51 @@ unfolding files_after
 empty_is_faithful history = no_lines history
 
 get_put : (files : Files) (path bytes : List ℕ) → get (insert files path bytes) path ≡ Some bytes
-get_put files path bytes = get-insert nat_list_cmp_total files path bytes path ∙ at_name path (Some bytes) (get files path)
+get_put files path bytes = get-insert nat_list_cmp_total files path bytes path
+    ∙ at_name path (Some bytes) (get files path)
 
 get_others : (files : Files) (path bytes q : List ℕ) → q ≢ path → get (insert files path bytes) q ≡ get files q
-get_others files path bytes q other = get-insert nat_list_cmp_total files path bytes q ∙ at_other q path (Some bytes) (get files q) other
+get_others files path bytes q other = get-insert nat_list_cmp_total files path bytes q
+    ∙ at_other q path (Some bytes) (get files q) other
 
 abbrev pub the_whole : FileName
 the_whole = record { level = 9; min = 1; max = 1; on_level = refl; in_order = omega arith; from_first = λ _. refl }
 
 pub valid_whole : IsValid the_whole
-valid_whole = record { known = refl; from_first = omega arith; in_order = omega arith; max_fits = omega arith; whole = λ _. refl }
+valid_whole = record {
+  known = refl;
+  from_first = omega arith;
+  in_order = omega arith;
+  max_fits = omega arith;
+  whole =
+      λ _. refl;
+}
 
 abbrev the_piece : FileName
-the_piece = record { level = 0; min = 2; max = 2; on_level = refl; in_order = omega arith; from_first = λ e. absurd (omega (arith, e)) }
+the_piece = record {
+  level = 0;
+  min = 2;
+  max = 2;
+  on_level = refl;
+  in_order = omega arith;
+  from_first = λ e. absurd
+      (omega (arith, e));
+}
 
 valid_piece : IsValid the_piece
-valid_piece = record { known = refl; from_first = omega arith; in_order = omega arith; max_fits = omega arith; whole = λ e. absurd (omega (arith, e)) }
+valid_piece = record {
+  known = refl;
+  from_first = omega arith;
+  in_order = omega arith;
+  max_fits = omega arith;
+  whole =
+      λ e. absurd (omega (arith, e));
+}
 
 -- one number doesn't fall, and two don't where the second is no smaller
 one_rises : (m : ℕ) → IsNonDecreasing (m ∷ [])
-one_rises m i zero d before within = let first : i ≡ 0 = omega (arith, before) in subst (λ (k : ℕ). get_or (m ∷ []) k d ≤ m) (sym first) (omega arith)
+one_rises m i zero d before within = let first : i ≡ 0 = omega (arith, before) in
+    subst (λ (k : ℕ). get_or (m ∷ []) k d ≤ m) (sym first) (omega arith)
 one_rises m i (suc j) d before within = absurd (omega (arith, within))
 
 two_rise : (m n : ℕ) → m ≤ n → IsNonDecreasing (m ∷ n ∷ [])
@@ -142,7 +173,8 @@ two_rise m n up (suc zero) (suc zero) d before within = omega arith
 two_rise m n up (suc (suc i)) (suc zero) d before within = absurd (omega (arith, before))
 two_rise m n up i (suc (suc j)) d before within = absurd (omega (arith, within))
 
-module _ (history : History) (whole : List ℕ) (h : LtxHeader) (c : Change) (is : IsFileOf whole 1 1 h c) (stood : state_at history h.place ≡ Some (state_after c)) where
+module _ (history : History) (whole : List ℕ) (h : LtxHeader) (c : Change) (is : IsFileOf whole 1 1 h c)
+    (stood : state_at history h.place ≡ Some (state_after c)) where
   whole_leads : (s : ℕ) → MayFollow 1 1 s → TurnsInto history (line_in h ∷ []) c s 1
   whole_leads s (inl first) = record {
     before = empty_state;
@@ -159,15 +191,22 @@ module _ (history : History) (whole : List ℕ) (h : LtxHeader) (c : Change) (is
   whole_placed = (ap is_some stood, tt)
 
   -- the file of the whole database under its name, wherever no other file is
-  pub whole_in : (files : Files) → get files (whole_path 1) ≡ Some whole → ((q : List ℕ) → IsFilePath q → q ≢ whole_path 1 → get files q ≡ None) → IsFaithful files history (line_in h ∷ [])
+  pub whole_in : (files : Files) → get files (whole_path 1) ≡ Some whole
+      → ((q : List ℕ) → IsFilePath q → q ≢ whole_path 1 → get files q ≡ None)
+      → IsFaithful files history (line_in h ∷ [])
   whole_in files there others =
-      put_faithful empty files history [] (line_in h ∷ []) the_whole whole (no_lines history) (record { more = line_in h ∷ []; is = refl }) (one_rises h.moment) whole_placed valid_whole (omega arith) whole_file (inl refl) there
+      put_faithful empty files history [] (line_in h ∷ []) the_whole whole (no_lines history)
+      (record { more = line_in h ∷ []; is = refl }) (one_rises h.moment) whole_placed valid_whole (omega arith)
+      whole_file (inl refl) there
       (λ q path other. others q path other ∙ sym (nothing_at q))
 
   whole_is_there : IsFaithful (with_whole whole) history (line_in h ∷ [])
-  whole_is_there = whole_in (with_whole whole) (get_put empty (whole_path 1) whole) (λ q path other. get_others empty (whole_path 1) whole q other ∙ nothing_at q)
+  whole_is_there = whole_in (with_whole whole) (get_put empty (whole_path 1) whole)
+      (λ q path other. get_others empty (whole_path 1) whole q other ∙ nothing_at q)
 
-  module _ (piece : List ℕ) (i : LtxHeader) (d : Change) (next : IsFileOf piece 2 2 i d) (fits : IsApplicable (state_after c) d) (then : state_at history i.place ≡ Some (apply (state_after c) d)) (up : h.moment ≤ i.moment) where
+  module _ (piece : List ℕ) (i : LtxHeader) (d : Change) (next : IsFileOf piece 2 2 i d)
+      (fits : IsApplicable (state_after c) d) (then : state_at history i.place ≡ Some (apply (state_after c) d))
+      (up : h.moment ≤ i.moment) where
     abbrev lines : SyncLog
     lines = line_in h ∷ line_in i ∷ []
 
@@ -177,7 +216,13 @@ module _ (history : History) (whole : List ℕ) (h : LtxHeader) (c : Change) (is
         elim (cases_lt s 2) [
           | inl below ↦
               let one : s ≡ 1 = omega (arith, below, later.1) in
-              record { before = state_after c; recorded = ap (recorded_state history lines) one ∙ stood; fits = fits; after = then }
+              record {
+                before = state_after c;
+                recorded = ap (recorded_state history lines) one
+                    ∙ stood;
+                fits = fits;
+                after = then;
+              }
           | inr above ↦
               let two : s ≡ 2 = omega (arith, above, later.2) in
               record {
@@ -193,12 +238,15 @@ module _ (history : History) (whole : List ℕ) (h : LtxHeader) (c : Change) (is
 
     piece_is_there : IsFaithful (with_piece whole piece) history lines
     piece_is_there =
-        put_faithful (with_whole whole) (with_piece whole piece) history (line_in h ∷ []) lines the_piece piece whole_is_there (record { more = line_in i ∷ []; is = refl }) (two_rise h.moment i.moment up)
-        (ap is_some stood, (ap is_some then, tt)) valid_piece (omega arith) piece_file (inl refl) (get_put (with_whole whole) (file_path 0 2 2) piece)
+        put_faithful (with_whole whole) (with_piece whole piece) history (line_in h ∷ []) lines the_piece piece
+        whole_is_there (record { more = line_in i ∷ []; is = refl }) (two_rise h.moment i.moment up)
+        (ap is_some stood, (ap is_some then, tt)) valid_piece (omega arith) piece_file (inl refl)
+        (get_put (with_whole whole) (file_path 0 2 2) piece)
         (λ q path other. get_others (with_whole whole) (file_path 0 2 2) piece q other)
 
 pub whole_is_faithful : WholeIsFaithful
 whole_is_faithful history whole h c is stood = whole_is_there history whole h c is stood
 
 pub piece_is_faithful : PieceIsFaithful
-piece_is_faithful history whole piece h i c d is stood next fits then up = piece_is_there history whole h c is stood piece i d next fits then up
+piece_is_faithful history whole piece h i c d is stood next fits then up = piece_is_there history whole h c is stood
+    piece i d next fits then up

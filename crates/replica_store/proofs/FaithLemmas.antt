@@ -1,5 +1,6 @@
 -- Files that are faithful stay so where the log or the history grows, and where a faithful file is put beside them.
-use Rattle.std.proofs.Common.{◌≡◌, ◌≢◌, ℕ, ◌<◌, ◌≤◌, List, [], ◌∷◌, ◌++◌, length, take, false, true, Option, Some, None, refl, sym, ap, subst, ◌∙◌, inl, inr, ⊎_elim, arith}
+use Rattle.std.proofs.Common.{◌≡◌, ◌≢◌, ℕ, ◌<◌, ◌≤◌, List, [], ◌∷◌, ◌++◌, length, take, false, true, Option, Some, None}
+use Rattle.std.proofs.Common.{refl, sym, ap, subst, ◌∙◌, inl, inr, ⊎_elim, arith}
 use Rattle.std.specs.Prelude.{◌⊎◌, IsSome, is_some}
 use Rattle.std.specs.List.{AllByRecursion}
 use Rattle.std.specs.FinMap.{get}
@@ -40,7 +41,9 @@ follows_within min max s (inl first) = omega (arith, first.1)
 follows_within min max s (inr later) = later.2
 
 -- a faithful file is faithful to each log that agrees up to its last transaction
-pub file_agrees : (history : History) (log other : SyncLog) (min max : ℕ) (bytes : List ℕ) → ((t : ℕ) → t ≤ max → line_of other t ≡ line_of log t) → IsFaithfulFile history log min max bytes → IsFaithfulFile history other min max bytes
+pub file_agrees : (history : History) (log other : SyncLog) (min max : ℕ) (bytes : List ℕ)
+    → ((t : ℕ) → t ≤ max → line_of other t ≡ line_of log t) → IsFaithfulFile history log min max bytes
+    → IsFaithfulFile history other min max bytes
 file_agrees history log other min max bytes agree is = record {
   header = is.header;
   change = is.change;
@@ -57,7 +60,8 @@ file_agrees history log other min max bytes agree is = record {
 }
 
 -- and to each longer history
-pub file_longer : (history more : History) (log : SyncLog) (min max : ℕ) (bytes : List ℕ) → IsFaithfulFile history log min max bytes → IsFaithfulFile (history ++ more) log min max bytes
+pub file_longer : (history more : History) (log : SyncLog) (min max : ℕ) (bytes : List ℕ)
+    → IsFaithfulFile history log min max bytes → IsFaithfulFile (history ++ more) log min max bytes
 file_longer history more log min max bytes is = record {
   header = is.header;
   change = is.change;
@@ -75,16 +79,19 @@ file_longer history more log min max bytes is = record {
 
 -- ---- files
 
-pub faithful_longer : (files : Files) (history more : History) (log : SyncLog) → IsFaithful files history log → IsFaithful files (history ++ more) log
+pub faithful_longer : (files : Files) (history more : History) (log : SyncLog) → IsFaithful files history log
+    → IsFaithful files (history ++ more) log
 faithful_longer files history more log is = record {
   rising = is.rising;
   placed = placed_longer history more log is.placed;
   within = is.within;
   reached = is.reached;
-  each = λ name bytes valid there. file_longer history more log name.min name.max bytes (is.each name bytes valid there);
+  each = λ name bytes valid there. file_longer history more log name.min name.max bytes
+      (is.each name bytes valid there);
 }
 
-pub front_longer : (files : Files) (history more : History) (log : SyncLog) (least : ℕ) → IsFaithfulToFront files history log least → IsFaithfulToFront files (history ++ more) log least
+pub front_longer : (files : Files) (history more : History) (log : SyncLog) (least : ℕ)
+    → IsFaithfulToFront files history log least → IsFaithfulToFront files (history ++ more) log least
 front_longer files history more log least is = record {
   lines = is.lines;
   enough = is.enough;
@@ -93,10 +100,13 @@ front_longer files history more log least is = record {
 }
 
 -- files that read the same under the paths of names
-pub in_same : (a b : Files) → ((q : List ℕ) → IsFilePath q → get b q ≡ get a q) → (name : FileName) → IsIn a name → IsIn b name
-in_same a b same name is = record { valid = is.valid; there = ap is_some (same (path_of name) (is_path name is.valid)) ∙ is.there }
+pub in_same : (a b : Files) → ((q : List ℕ) → IsFilePath q → get b q ≡ get a q) → (name : FileName) → IsIn a name
+    → IsIn b name
+in_same a b same name is = record
+    { valid = is.valid; there = ap is_some (same (path_of name) (is_path name is.valid)) ∙ is.there }
 
-pub same_faithful : (a b : Files) (history : History) (log : SyncLog) → ((q : List ℕ) → IsFilePath q → get b q ≡ get a q) → IsFaithful a history log → IsFaithful b history log
+pub same_faithful : (a b : Files) (history : History) (log : SyncLog)
+    → ((q : List ℕ) → IsFilePath q → get b q ≡ get a q) → IsFaithful a history log → IsFaithful b history log
 same_faithful a b history log same is = record {
   rising = is.rising;
   placed = is.placed;
@@ -106,7 +116,8 @@ same_faithful a b history log same is = record {
 }
 
 -- the whole log is a front of it
-pub whole_front : (files : Files) (history : History) (log : SyncLog) (least : ℕ) → least ≤ length log → IsFaithful files history log → IsFaithfulToFront files history log least
+pub whole_front : (files : Files) (history : History) (log : SyncLog) (least : ℕ) → least ≤ length log
+    → IsFaithful files history log → IsFaithfulToFront files history log least
 whole_front files history log least below is = record {
   lines = length log;
   enough = below;
@@ -115,24 +126,36 @@ whole_front files history log least below is = record {
 }
 
 -- Part of faithful files, with the last one among them, is faithful: each name that is there has what it had.
-pub part_faithful : (old new : Files) (history : History) (log : SyncLog) → IsFaithful old history log → ((q : List ℕ) → IsFilePath q → (get new q ≡ get old q) ⊎ (get new q ≡ None))
+pub part_faithful : (old new : Files) (history : History) (log : SyncLog) → IsFaithful old history log
+    → ((q : List ℕ) → IsFilePath q → (get new q ≡ get old q) ⊎ (get new q ≡ None))
     → (0 < length log → (name : FileName) × IsIn new name × (name.max ≡ length log)) → IsFaithful new history log
 part_faithful old new history log is part reached =
-    let before : (name : FileName) (bytes : List ℕ) → IsValid name → get new (path_of name) ≡ Some bytes → get old (path_of name) ≡ Some bytes
+    let before : (name : FileName) (bytes : List ℕ) → IsValid name → get new (path_of name) ≡ Some bytes
+    → get old (path_of name) ≡ Some bytes
     = λ name bytes valid there.
-    ⊎_elim (λ same. sym same ∙ there) (λ none. absurd (none-some bytes (sym none ∙ there))) (part (path_of name) (is_path name valid)) in
+    ⊎_elim (λ same. sym same ∙ there) (λ none. absurd (none-some bytes (sym none ∙ there)))
+    (part (path_of name) (is_path name valid)) in
     record {
       rising = is.rising;
       placed = is.placed;
-      within = λ name there. there_with (get new (path_of name)) there.there (λ bytes found. is.within name (record { valid = there.valid; there = is_there (get old (path_of name)) bytes (before name bytes there.valid found) }));
+      within = λ name there. there_with (get new (path_of name)) there.there
+          (λ bytes found. is.within name
+          (record {
+            valid = there.valid;
+            there = is_there (get old (path_of name)) bytes
+                (before name bytes there.valid found);
+          }));
       reached = reached;
       each = λ name bytes valid there. is.each name bytes valid (before name bytes valid there);
     }
 
 -- A file that is faithful to the later log is put beside files that are faithful to the log.
-pub put_faithful : (old new : Files) (history : History) (log later : SyncLog) (name : FileName) (bytes : List ℕ) → IsFaithful old history log → IsLonger log later → IsSyncLog later
-    → AllByRecursion (λ line. IsSome (state_at history line.place)) later → IsValid name → name.max ≤ length later → IsFaithfulFile history later name.min name.max bytes
-    → (name.max ≡ length later) ⊎ (length later ≡ length log) → get new (path_of name) ≡ Some bytes → ((q : List ℕ) → IsFilePath q → q ≢ path_of name → get new q ≡ get old q) → IsFaithful new history later
+pub put_faithful : (old new : Files) (history : History) (log later : SyncLog) (name : FileName) (bytes : List ℕ)
+    → IsFaithful old history log → IsLonger log later → IsSyncLog later
+    → AllByRecursion (λ line. IsSome (state_at history line.place)) later → IsValid name → name.max ≤ length later
+    → IsFaithfulFile history later name.min name.max bytes
+    → (name.max ≡ length later) ⊎ (length later ≡ length log) → get new (path_of name) ≡ Some bytes
+    → ((q : List ℕ) → IsFilePath q → q ≢ path_of name → get new q ≡ get old q) → IsFaithful new history later
 put_faithful old new history log later name bytes is longer rising placed valid within fits newest put others =
     let here : IsIn new name = record { valid = valid; there = is_there (get new (path_of name)) bytes put } in
     let up = longer_by log later longer in
@@ -140,35 +163,53 @@ put_faithful old new history log later name bytes is longer rising placed valid 
       rising = rising;
       placed = placed;
       within = λ other there. by_names (path_of other) (path_of name)
-          (λ same. subst (λ (n : FileName). n.max ≤ length later) (sym (one_file_name other name there.valid valid same)) within)
+          (λ same. subst (λ (n : FileName). n.max ≤ length later)
+          (sym (one_file_name other name there.valid valid same)) within)
           (λ apart.
-          let low = is.within other (record { valid = there.valid; there = ap is_some (sym (others (path_of other) (is_path other there.valid) apart)) ∙ there.there }) in omega (arith, low, up));
+          let low = is.within other (record {
+            valid = there.valid;
+            there = ap is_some
+                (sym (others (path_of other) (is_path other there.valid) apart)) ∙ there.there;
+          }) in omega
+          (arith, low, up));
       reached = λ some. ⊎_elim (λ last. (name, here, last))
           (λ same_length.
           let last = is.reached (omega (arith, some, same_length)) in (
             last.0,
             by_names (path_of last.0) (path_of name)
                 (λ same. subst (IsIn new) (sym (one_file_name last.0 name last.1.valid valid same)) here)
-                (λ apart. record { valid = last.1.valid; there = ap is_some (others (path_of last.0) (is_path last.0 last.1.valid) apart) ∙ last.1.there }),
+                (λ apart. record {
+                  valid = last.1.valid;
+                  there = ap is_some
+                      (others (path_of last.0) (is_path last.0 last.1.valid) apart) ∙ last.1.there;
+                }),
             last.2 ∙ sym same_length,
           )) newest;
       each = λ other found valid_other there. by_names (path_of other) (path_of name)
           (λ same.
           let one = one_file_name other name valid_other valid same in
           let is_found : bytes ≡ found = same_bytes bytes found (sym put ∙ ap (get new) (sym same) ∙ there) in
-          subst (λ (n : FileName). IsFaithfulFile history later n.min n.max found) (sym one) (subst (λ (b : List ℕ). IsFaithfulFile history later name.min name.max b) is_found fits))
+          subst (λ (n : FileName). IsFaithfulFile history later n.min n.max found) (sym one)
+          (subst (λ (b : List ℕ). IsFaithfulFile history later name.min name.max b) is_found fits))
           (λ apart.
           let old_there = sym (others (path_of other) (is_path other valid_other) apart) ∙ there in
-          let low = is.within other (record { valid = valid_other; there = is_there (get old (path_of other)) found old_there }) in
-          file_agrees history log later other.min other.max found (λ t below. line_of-longer log later t longer (omega (arith, below, low))) (is.each other found valid_other old_there));
+          let low = is.within other (record
+          { valid = valid_other; there = is_there (get old (path_of other)) found old_there }) in
+          file_agrees history log later other.min other.max found
+          (λ t below. line_of-longer log later t longer (omega (arith, below, low)))
+          (is.each other found valid_other old_there));
     }
 
 -- ---- retained transactions
 
-pub leads_more : (a b : FileName → Type 0) → ((name : FileName) → a name → b name) → (from : ℕ) (chain : List FileName) (t : ℕ) → LeadsBy a from chain t → LeadsBy b from chain t
+pub leads_more : (a b : FileName → Type 0) → ((name : FileName) → a name → b name)
+    → (from : ℕ) (chain : List FileName) (t : ℕ) → LeadsBy a from chain t → LeadsBy b from chain t
 leads_more a b more from [] t leads = leads
-leads_more a b more from (name ∷ chain) t leads = (more name leads.0, leads.1, leads_more a b more name.max chain t leads.2)
+leads_more a b more from (name ∷ chain) t leads =
+    (more name leads.0, leads.1, leads_more a b more name.max chain t leads.2)
 
 -- a larger set of files retains what a smaller one does
-pub retained_more : (a b : Files) (t : ℕ) → ((name : FileName) → IsIn a name → IsIn b name) → IsRetainedIn a t → IsRetainedIn b t
-retained_more a b t more is = record { positive = is.positive; chain = is.chain; leads = leads_more (IsIn a) (IsIn b) more 0 is.chain t is.leads }
+pub retained_more : (a b : Files) (t : ℕ) → ((name : FileName) → IsIn a name → IsIn b name) → IsRetainedIn a t
+    → IsRetainedIn b t
+retained_more a b t more is = record
+    { positive = is.positive; chain = is.chain; leads = leads_more (IsIn a) (IsIn b) more 0 is.chain t is.leads }

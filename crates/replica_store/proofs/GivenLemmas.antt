@@ -21,11 +21,13 @@ module _ (a b : ℕ) (x y z : Option ℕ) (m n : ℕ) (low : m ≤ a) (high : n 
   in_turn (inl first) (inl second) = gave_nothing (a + b) x z (second ∙ first)
   in_turn (inl first) (inr second) = gave_some (a + b) n x z (omega arith) (second ∙ ap (λ g. gives g n) first)
   in_turn (inr first) (inl second) = gave_some (a + b) m x z (omega arith) (second ∙ first)
-  in_turn (inr first) (inr second) = gave_some (a + b) (m + n) x z (omega arith) (second ∙ ap (λ g. gives g n) first ∙ gives_twice x m n)
+  in_turn (inr first) (inr second) = gave_some (a + b) (m + n) x z (omega arith)
+      (second ∙ ap (λ g. gives g n) first ∙ gives_twice x m n)
 
 -- some bytes, and then some more
 pub gave_then : (a b : ℕ) (x y z : Option ℕ) → GaveAtMost a x y → GaveAtMost b y z → GaveAtMost (a + b) x z
-gave_then a b x y z first second = in_turn a b x y z first.more second.more first.within second.within first.is second.is
+gave_then a b x y z first second = in_turn a b x y z first.more second.more first.within second.within first.is
+    second.is
 
 pub gave_within : (a b : ℕ) (x y : Option ℕ) → a ≤ b → GaveAtMost a x y → GaveAtMost b x y
 gave_within a b x y below gave = record { more = gave.more; within = omega (arith, gave.within); is = gave.is }

@@ -12,7 +12,8 @@ use Rattle.replica_store.proofs.DropCarryLemmas.{placed_settled}
 use Rattle.replica_store.proofs.FaithLawLemmas.{empty_is_faithful, whole_is_faithful}
 use Rattle.replica_store.proofs.FaithLemmas.{faithful_longer, front_longer}
 
-crash_faithful_longer : (history more : History) (now : List Event) (log : SyncLog) → IsCrashFaithful now history log → IsCrashFaithful now (history ++ more) log
+crash_faithful_longer : (history more : History) (now : List Event) (log : SyncLog) → IsCrashFaithful now history log
+    → IsCrashFaithful now (history ++ more) log
 crash_faithful_longer history more now log is = record {
   files = faithful_longer (files_after now) history more log is.files;
   images = λ image crash. front_longer image history more log 0 (is.images image crash);
@@ -37,4 +38,5 @@ empty_is_settled history = placed_settled [] history [] tt (empty_is_faithful hi
 
 pub whole_is_settled : WholeIsSettled
 unfolding files_after
-whole_is_settled history whole h c is stood = placed_settled (Placed (whole_path 1) whole ∷ []) history _ tt (whole_is_faithful history whole h c is stood)
+whole_is_settled history whole h c is stood = placed_settled (Placed (whole_path 1) whole ∷ []) history _ tt
+    (whole_is_faithful history whole h c is stood)

@@ -28,18 +28,24 @@ max_part level min max = refl
 
 same_number : (m n : ℕ) → 0 < m → m < 2 ^ 64 → 0 < n → n < 2 ^ 64 → hex_digits m ≡ hex_digits n → m ≡ n
 same_number m n m_positive m_fits n_positive n_fits same =
-    let e : Some m ≡ Some n = sym (txid_of-hex_digits m m_positive m_fits) ∙ ap txid_of same ∙ txid_of-hex_digits n n_positive n_fits in cc
+    let e : Some m ≡ Some n = sym (txid_of-hex_digits m m_positive m_fits) ∙ ap txid_of same
+    ∙ txid_of-hex_digits n n_positive n_fits in cc
 
 -- a text is the name of one file
-pub one_name : (level min max other_level other_min other_max : ℕ) → IsName level min max → IsName other_level other_min other_max → file_path level min max ≡ file_path other_level other_min other_max
+pub one_name : (level min max other_level other_min other_max : ℕ) → IsName level min max
+    → IsName other_level other_min other_max → file_path level min max ≡ file_path other_level other_min other_max
     → (level ≡ other_level) × (min ≡ other_min) × (max ≡ other_max)
 one_name l m x l' m' x' is is' same =
     let level : 48 + l ≡ 48 + l' = sym (level_part l m x) ∙ ap (λ t. get_or t 4 0) same ∙ level_part l' m' x' in
-    let min : hex_digits m ≡ hex_digits m' = sym (min_part l m x) ∙ ap (λ t. slice_range t 6 22) same ∙ min_part l' m' x' in
-    let max : hex_digits x ≡ hex_digits x' = sym (max_part l m x) ∙ ap (λ t. slice_range t 23 39) same ∙ max_part l' m' x' in (
+    let min : hex_digits m ≡ hex_digits m' = sym (min_part l m x) ∙ ap (λ t. slice_range t 6 22) same
+    ∙ min_part l' m' x' in
+    let max : hex_digits x ≡ hex_digits x' = sym (max_part l m x) ∙ ap (λ t. slice_range t 23 39) same
+    ∙ max_part l' m' x' in (
       omega (arith, level),
-      same_number m m' (omega (arith, is.from_first)) (omega (arith, is.in_order, is.max_fits)) (omega (arith, is'.from_first)) (omega (arith, is'.in_order, is'.max_fits)) min,
-      same_number x x' (omega (arith, is.from_first, is.in_order)) is.max_fits (omega (arith, is'.from_first, is'.in_order)) is'.max_fits max,
+      same_number m m' (omega (arith, is.from_first)) (omega (arith, is.in_order, is.max_fits))
+          (omega (arith, is'.from_first)) (omega (arith, is'.in_order, is'.max_fits)) min,
+      same_number x x' (omega (arith, is.from_first, is.in_order)) is.max_fits
+          (omega (arith, is'.from_first, is'.in_order)) is'.max_fits max,
     )
 
 known_prop : (level : ℕ) → IsProp (IsTrue (is_level level))
@@ -59,7 +65,8 @@ same_parts x y level min max = λ i. record {
   max = max i;
   on_level = is_prop→PathP (λ j. IsTrue (is_level (level j))) (λ j. known_prop (level j)) x.on_level y.on_level i;
   in_order = is_prop→PathP (λ j. min j ≤ max j) (λ j. order_prop (min j) (max j)) x.in_order y.in_order i;
-  from_first = is_prop→PathP (λ j. level j ≡ 9 → min j ≡ 1) (λ j. first_prop (level j) (min j)) x.from_first y.from_first i;
+  from_first = is_prop→PathP (λ j. level j ≡ 9 → min j ≡ 1) (λ j. first_prop (level j) (min j)) x.from_first
+      y.from_first i;
 }
 
 -- and so are valid names of one path

@@ -1,5 +1,6 @@
 -- Why a text that a name writes is read.
-use Rattle.std.proofs.Common.{◌≡◌, ℕ, ◌+◌, ◌-◌, ◌^◌, ◌<◌, ◌≤◌, ◌≢◌, Bool, true, false, not, List, get_or, Option, Some, None, refl, sym, ap, subst, ◌∙◌, arith}
+use Rattle.std.proofs.Common.{◌≡◌, ℕ, ◌+◌, ◌-◌, ◌^◌, ◌<◌, ◌≤◌, ◌≢◌, Bool, true, false, not, List, get_or, Option, Some}
+use Rattle.std.proofs.Common.{None, refl, sym, ap, subst, ◌∙◌, arith}
 use Rattle.std.specs.Option.{IfNone, SomeIff}
 use Rattle.std.specs.Prelude.{IsUtf8}
 use Rattle.std.specs.Str.{bytes_eq}
@@ -16,13 +17,15 @@ use Rattle.replica_store.proofs.NameLemmas.{ascii_digits}
 abbrev NoName : List ℕ → Type 0
 NoName text = (level min max : ℕ) → IsName level min max → text ≢ file_path level min max
 
-pub if_none : {T : Type 0} (o : Option T) (text : List ℕ) → ((level min max : ℕ) → IsName level min max → text ≡ file_path level min max → ⊥) → IfNone o (NoName text)
+pub if_none : {T : Type 0} (o : Option T) (text : List ℕ)
+    → ((level min max : ℕ) → IsName level min max → text ≡ file_path level min max → ⊥) → IfNone o (NoName text)
 if_none None text h = h
 if_none (Some x) text h = tt
 
 -- the text isn't another one
 pub is_same : (written text : List ℕ) → true ≡ not (bytes_eq written text) → written ≡ text → ⊥
-is_same written text other same = let found : bytes_eq written text ≡ true = (bytes_eq-Decides written text).1 same in absurd (subst (λ b. true ≡ not b → ⊥) (sym found) (λ e. cc) other)
+is_same written text other same = let found : bytes_eq written text ≡ true = (bytes_eq-Decides written text).1 same in
+    absurd (subst (λ b. true ≡ not b → ⊥) (sym found) (λ e. cc) other)
 
 by_answer : {P : Type 0} (b : Bool) → false ≡ not b → (b ≡ true → P) → P
 by_answer true e f = f refl
@@ -39,10 +42,12 @@ utf8_digits n digits same = subst IsUtf8 (sym same) (IsUtf8-from_ascii (hex_digi
 pub not_read : (n : ℕ) (o : Option ℕ) → (0 < n → n < 2 ^ 64 → o ≡ Some n) → o ≡ None → 0 < n → n < 2 ^ 64 → ⊥
 not_read n o reads none positive fits = none-some n (sym none ∙ reads positive fits)
 
-pub min_of : (text : List ℕ) (level min max : ℕ) → text ≡ file_path level min max → slice_range text 6 22 ≡ hex_digits min
+pub min_of : (text : List ℕ) (level min max : ℕ) → text ≡ file_path level min max
+    → slice_range text 6 22 ≡ hex_digits min
 min_of text level min max same = ap (λ t. slice_range t 6 22) same ∙ min_part level min max
 
-pub max_of : (text : List ℕ) (level min max : ℕ) → text ≡ file_path level min max → slice_range text 23 39 ≡ hex_digits max
+pub max_of : (text : List ℕ) (level min max : ℕ) → text ≡ file_path level min max
+    → slice_range text 23 39 ≡ hex_digits max
 max_of text level min max same = ap (λ t. slice_range t 23 39) same ∙ max_part level min max
 
 -- the level's digit is there
@@ -53,11 +58,13 @@ pub no_level : (n level : ℕ) (o : Option ℕ) → SomeIff o (48 ≤ n) (n - 48
 no_level n level None is none e = is (omega (arith, e))
 no_level n level (Some x) is none e = none-some x (sym none)
 
-pub same_level : (n level found : ℕ) (o : Option ℕ) → SomeIff o (48 ≤ n) (n - 48) → o ≡ Some found → n ≡ 48 + level → found ≡ level
+pub same_level : (n level found : ℕ) (o : Option ℕ) → SomeIff o (48 ≤ n) (n - 48) → o ≡ Some found → n ≡ 48 + level
+    → found ≡ level
 same_level n level found None is some e = absurd (none-some found some)
 same_level n level found (Some x) is some e = let given : x ≡ found = cc in omega (arith, is.1, given, e)
 
-pub same_txid : (n found : ℕ) (o : Option ℕ) → (0 < n → n < 2 ^ 64 → o ≡ Some n) → o ≡ Some found → 0 < n → n < 2 ^ 64 → found ≡ n
+pub same_txid : (n found : ℕ) (o : Option ℕ) → (0 < n → n < 2 ^ 64 → o ≡ Some n) → o ≡ Some found → 0 < n → n < 2 ^ 64
+    → found ≡ n
 same_txid n found o reads some positive fits = let e : Some found ≡ Some n = sym some ∙ reads positive fits in cc
 
 pub same_name : (level min max l m x : ℕ) → l ≡ level → m ≡ min → x ≡ max → IsName level min max → IsName l m x

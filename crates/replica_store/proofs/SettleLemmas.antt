@@ -11,17 +11,21 @@ use Rattle.crash_disk.proofs.ReadFiles.{bytes_by, file_at-numbered}
 use Rattle.replica_store.specs.Putting.{LeavesTheNames}
 
 -- an image of a number is there where the number is
-both_there : (events : List Event) (number : Option ℕ) (file : Option (List ℕ)) → IsImageOf events number file → IsSome file ↔ IsSome (bytes_by (file_of events) number)
+both_there : (events : List Event) (number : Option ℕ) (file : Option (List ℕ)) → IsImageOf events number file
+    → IsSome file ↔ IsSome (bytes_by (file_of events) number)
 both_there events None None is = (λ h. h, λ h. h)
 both_there events None (Some bytes) is = absurd is
 both_there events (Some n) None is = absurd is
 both_there events (Some n) (Some bytes) is = (λ h. refl, λ h. refl)
 
-the_number : (events : List Event) (q : List ℕ) (image : Files) → IsCrashImage (NamesSynced ∷ events) image → IsImageOf (NamesSynced ∷ events) (number_at (NamesSynced ∷ events) q) (get image q)
+the_number : (events : List Event) (q : List ℕ) (image : Files) → IsCrashImage (NamesSynced ∷ events) image
+    → IsImageOf (NamesSynced ∷ events) (number_at (NamesSynced ∷ events) q) (get image q)
 unfolding numbers_at number_at
 the_number events q image crash = ⊎_elim (λ is. is) (λ none. absurd none) (crash.each q).one
 
 pub leaves_the_names : (events : List Event) → LeavesTheNames (NamesSynced ∷ events)
 leaves_the_names events image crash q =
-    subst (λ (file : Option (List ℕ)). IsSome (get image q) ↔ IsSome file) (sym (file_at-numbered (NamesSynced ∷ events) q))
-    (both_there (NamesSynced ∷ events) (number_at (NamesSynced ∷ events) q) (get image q) (the_number events q image crash))
+    subst (λ (file : Option (List ℕ)). IsSome (get image q) ↔ IsSome file)
+    (sym (file_at-numbered (NamesSynced ∷ events) q))
+    (both_there (NamesSynced ∷ events) (number_at (NamesSynced ∷ events) q) (get image q)
+    (the_number events q image crash))

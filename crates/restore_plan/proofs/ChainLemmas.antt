@@ -1,5 +1,6 @@
 -- Chains that grow by a file, and where they end.
-use Rattle.std.proofs.Common.{◌≡◌, ℕ, ◌+◌, ◌<◌, ◌≤◌, ◌⊎◌, inl, inr, zero, suc, List, [], ◌∷◌, ◌++◌, length, Option, Some, None, refl, sym, ap, ◌∙◌, subst, arith}
+use Rattle.std.proofs.Common.{◌≡◌, ℕ, ◌+◌, ◌<◌, ◌≤◌, ◌⊎◌, inl, inr, zero, suc, List, [], ◌∷◌, ◌++◌, length, Option}
+use Rattle.std.proofs.Common.{Some, None, refl, sym, ap, ◌∙◌, subst, arith}
 use Rattle.std.proofs.lemmas.Bool.{cases_lt}
 use Rattle.std.specs.List.{Contains, AllByRecursion}
 use Rattle.std.specs.Option.{IfNone}
@@ -10,31 +11,44 @@ use Rattle.restore_plan.specs.Retained.{IsGreatestRetainedBelow}
 use Rattle.restore_plan.specs.Progress.{Progress, stepped}
 
 -- a chain ends no earlier than it begins
-pub leads_up : (names : List FileName) (from : ℕ) (chain : List FileName) (to : ℕ) → LeadsTo names from chain to → from ≤ to
+pub leads_up : (names : List FileName) (from : ℕ) (chain : List FileName) (to : ℕ) → LeadsTo names from chain to
+    → from ≤ to
 leads_up names from [] to leads = omega (arith, leads)
 leads_up names from (name ∷ chain) to leads = omega (arith, leads.1.goes_on, leads_up names name.max chain to leads.2)
 
-pub leads_more : (names : List FileName) (from : ℕ) (chain : List FileName) (after : ℕ) (name : FileName) → LeadsTo names from chain after → Contains names name → MayComeNext after name
+pub leads_more : (names : List FileName) (from : ℕ) (chain : List FileName) (after : ℕ) (name : FileName)
+    → LeadsTo names from chain after → Contains names name → MayComeNext after name
     → LeadsTo names from (chain ++ name ∷ []) name.max
 leads_more names from [] after name leads there next = (there, subst (λ n. MayComeNext n name) (sym leads) next, refl)
-leads_more names from (first ∷ chain) after name leads there next = (leads.0, leads.1, leads_more names first.max chain after name leads.2 there next)
+leads_more names from (first ∷ chain) after name leads there next =
+    (leads.0, leads.1, leads_more names first.max chain after name leads.2 there next)
 
-pub chosen_more : (names : List FileName) (t from : ℕ) (chain : List FileName) (after : ℕ) (name : FileName) → IsChosenBetween names t from chain after → IsBestNext names t after name
+pub chosen_more : (names : List FileName) (t from : ℕ) (chain : List FileName) (after : ℕ) (name : FileName)
+    → IsChosenBetween names t from chain after → IsBestNext names t after name
     → IsChosenBetween names t from (chain ++ name ∷ []) name.max
 chosen_more names t from [] after name chosen best = (subst (λ n. IsBestNext names t n name) (sym chosen) best, refl)
-chosen_more names t from (first ∷ chain) after name chosen best = (chosen.0, chosen_more names t first.max chain after name chosen.1 best)
+chosen_more names t from (first ∷ chain) after name chosen best =
+    (chosen.0, chosen_more names t first.max chain after name chosen.1 best)
 
-pub chosen_leads : (names : List FileName) (t from : ℕ) (chain : List FileName) (to : ℕ) → IsChosenBetween names t from chain to → LeadsTo names from chain to
+pub chosen_leads : (names : List FileName) (t from : ℕ) (chain : List FileName) (to : ℕ)
+    → IsChosenBetween names t from chain to → LeadsTo names from chain to
 chosen_leads names t from [] to chosen = chosen
-chosen_leads names t from (first ∷ chain) to chosen = (chosen.0.leads.there, chosen.0.leads.next, chosen_leads names t first.max chain to chosen.1)
+chosen_leads names t from (first ∷ chain) to chosen =
+    (chosen.0.leads.there, chosen.0.leads.next, chosen_leads names t first.max chain to chosen.1)
 
 -- where no file may come next, no chain leads further
-pub stuck : (names : List FileName) (t after : ℕ) → ((name : FileName) → MayLead names t after name → ⊥) → (from : ℕ) (chain : List FileName) (to : ℕ) → from ≤ after → LeadsTo names from chain to → to ≤ t → to ≤ after
+pub stuck : (names : List FileName) (t after : ℕ) → ((name : FileName) → MayLead names t after name → ⊥)
+    → (from : ℕ) (chain : List FileName) (to : ℕ) → from ≤ after → LeadsTo names from chain to → to ≤ t → to ≤ after
 stuck names t after end from [] to low leads within = omega (arith, leads)
 stuck names t after end from (name ∷ chain) to low leads within =
     elim (cases_lt after name.max) [
       | inr below ↦ stuck names t after end name.max chain to below leads.2 within
-      | inl beyond ↦ absurd (end name (record { there = leads.0; next = record { begins = omega (arith, leads.1.begins); goes_on = beyond }; within = omega (arith, leads_up names name.max chain to leads.2) }))
+      | inl beyond ↦ absurd (end name
+          (record {
+            there = leads.0;
+            next = record { begins = omega (arith, leads.1.begins); goes_on = beyond };
+            within = omega (arith, leads_up names name.max chain to leads.2);
+          }))
     ]
 
 -- a chain of these names that has come so far on the way to t
@@ -45,14 +59,24 @@ pub record IsOnTheWay (names : List FileName) (t : ℕ) (progress : Progress) : 
   pub chain : List FileName
   pub leads : LeadsTo names 0 chain progress.after
 
-pub begin : (names : List FileName) (t : ℕ) (progress : Progress) → progress ≡ record { names = names; t = t; after = 0 } → IsOnTheWay names t progress
-begin names t progress is = record { same_names = ap (λ p. p.names) is; same_t = ap (λ p. p.t) is; within = omega (arith, ap (λ p. p.after) is); chain = []; leads = sym (ap (λ p. p.after) is) }
+pub begin : (names : List FileName) (t : ℕ) (progress : Progress)
+    → progress ≡ record { names = names; t = t; after = 0 } → IsOnTheWay names t progress
+begin names t progress is = record {
+  same_names = ap (λ p. p.names) is;
+  same_t = ap (λ p. p.t) is;
+  within = omega (arith, ap (λ p. p.after) is);
+  chain = [];
+  leads = sym (ap (λ p. p.after) is);
+}
 
 -- the same best file, of the names that stay the same
-pub best_of : (names : List FileName) (t : ℕ) (progress : Progress) (name : FileName) → IsOnTheWay names t progress → IsBestNext progress.names progress.t progress.after name → IsBestNext names t progress.after name
-best_of names t progress name way best = subst (λ n. IsBestNext n t progress.after name) way.same_names (subst (λ u. IsBestNext progress.names u progress.after name) way.same_t best)
+pub best_of : (names : List FileName) (t : ℕ) (progress : Progress) (name : FileName) → IsOnTheWay names t progress
+    → IsBestNext progress.names progress.t progress.after name → IsBestNext names t progress.after name
+best_of names t progress name way best = subst (λ n. IsBestNext n t progress.after name) way.same_names
+    (subst (λ u. IsBestNext progress.names u progress.after name) way.same_t best)
 
-pub go_on : (names : List FileName) (t : ℕ) (progress next : Progress) (name : FileName) → IsOnTheWay names t progress → IsBestNext progress.names progress.t progress.after name → next ≡ stepped progress (Some name)
+pub go_on : (names : List FileName) (t : ℕ) (progress next : Progress) (name : FileName) → IsOnTheWay names t progress
+    → IsBestNext progress.names progress.t progress.after name → next ≡ stepped progress (Some name)
     → IsOnTheWay names t next × (progress.after < next.after)
 go_on names t progress next name way best is =
     let b = best_of names t progress name way best in
@@ -62,42 +86,58 @@ go_on names t progress next name way best is =
         same_t = ap (λ p. p.t) is ∙ way.same_t;
         within = omega (arith, e, b.leads.within);
         chain = way.chain ++ name ∷ [];
-        leads = subst (λ n. LeadsTo names 0 (way.chain ++ name ∷ []) n) (sym e) (leads_more names 0 way.chain progress.after name way.leads b.leads.there b.leads.next);
+        leads = subst (λ n. LeadsTo names 0 (way.chain ++ name ∷ []) n) (sym e)
+            (leads_more names 0 way.chain progress.after name way.leads b.leads.there b.leads.next);
       },
       omega (arith, e, b.leads.next.goes_on),
     )
 
-reached_or_none : (names : List FileName) (chain : List FileName) (n : ℕ) → LeadsTo names 0 chain n → (n ≡ 0) ⊎ IsRetained names n
+reached_or_none : (names : List FileName) (chain : List FileName) (n : ℕ) → LeadsTo names 0 chain n → (n ≡ 0)
+    ⊎ IsRetained names n
 reached_or_none names chain zero leads = inl refl
 reached_or_none names chain (suc n) leads = inr (record { positive = omega arith; chain = chain; leads = leads })
 
 -- where it can't go on it has come to the greatest retained transaction up to t
-pub come_to : (names : List FileName) (t : ℕ) (progress : Progress) → IsOnTheWay names t progress → ((name : FileName) → MayLead progress.names progress.t progress.after name → ⊥)
+pub come_to : (names : List FileName) (t : ℕ) (progress : Progress) → IsOnTheWay names t progress
+    → ((name : FileName) → MayLead progress.names progress.t progress.after name → ⊥)
     → IsGreatestRetainedBelow names (t + 1) progress.after
 come_to names t progress way end =
-    let stop = subst (λ n. (name : FileName) → MayLead n t progress.after name → ⊥) way.same_names (subst (λ u. (name : FileName) → MayLead progress.names u progress.after name → ⊥) way.same_t end) in
+    let stop = subst (λ n. (name : FileName) → MayLead n t progress.after name → ⊥) way.same_names
+    (subst (λ u. (name : FileName) → MayLead progress.names u progress.after name → ⊥) way.same_t end) in
     record {
       is = reached_or_none names way.chain progress.after way.leads;
       below = omega (arith, way.within);
-      others = λ other is low. stuck names t progress.after stop 0 is.chain other (omega arith) is.leads (omega (arith, low));
+      others = λ other is low. stuck names t progress.after stop 0 is.chain other (omega arith) is.leads
+          (omega (arith, low));
     }
 
 -- the last step, which found no file
-pub come_to_end : (names : List FileName) (t : ℕ) (progress next : Progress) (o : Option FileName) → IsOnTheWay names t progress
-    → IfNone o ((name : FileName) → MayLead progress.names progress.t progress.after name → ⊥) → next ≡ stepped progress o → ((name : FileName) → o ≡ Some name → ⊥)
+pub come_to_end : (names : List FileName) (t : ℕ) (progress next : Progress) (o : Option FileName)
+    → IsOnTheWay names t progress
+    → IfNone o ((name : FileName) → MayLead progress.names progress.t progress.after name → ⊥)
+    → next ≡ stepped progress o → ((name : FileName) → o ≡ Some name → ⊥)
     → (next.after ≡ progress.after) × IsGreatestRetainedBelow names (t + 1) next.after
-come_to_end names t progress next None way end is none = (ap (λ p. p.after) is, subst (λ n. IsGreatestRetainedBelow names (t + 1) n) (sym (ap (λ p. p.after) is)) (come_to names t progress way end))
+come_to_end names t progress next None way end is none = (
+  ap (λ p. p.after) is,
+  subst (λ n. IsGreatestRetainedBelow names (t + 1) n) (sym (ap (λ p. p.after) is))
+      (come_to names t progress way end),
+)
 come_to_end names t progress next (Some name) way end is none = absurd (none name refl)
 
 -- below t, where t isn't retained
-pub below_missing : (names : List FileName) (t greatest : ℕ) → IsGreatestRetainedBelow names (t + 1) greatest → (greatest ≡ t → ⊥) → IsGreatestRetainedBelow names t greatest
-below_missing names t greatest is other = record { is = is.is; below = omega (arith, is.below, other); others = λ n kept low. is.others n kept (omega (arith, low)) }
+pub below_missing : (names : List FileName) (t greatest : ℕ) → IsGreatestRetainedBelow names (t + 1) greatest
+    → (greatest ≡ t → ⊥) → IsGreatestRetainedBelow names t greatest
+below_missing names t greatest is other = record
+    { is = is.is; below = omega (arith, is.below, other); others = λ n kept low. is.others n kept (omega (arith, low)) }
 
-pub not_missing : (names : List FileName) (t greatest : ℕ) → IsGreatestRetainedBelow names (t + 1) greatest → (greatest ≡ t → ⊥) → IsRetained names t → ⊥
+pub not_missing : (names : List FileName) (t greatest : ℕ) → IsGreatestRetainedBelow names (t + 1) greatest
+    → (greatest ≡ t → ⊥) → IsRetained names t → ⊥
 not_missing names t greatest is other kept = other (omega (arith, is.below, is.others t kept (omega arith)))
 
-pub is_retained : (names : List FileName) (t greatest : ℕ) → 0 < t → IsGreatestRetainedBelow names (t + 1) greatest → greatest ≡ t → IsRetained names t
-is_retained names t greatest positive is e = elim is.is [ inl none ↦ absurd (omega (arith, none, e, positive)) | inr kept ↦ subst (λ n. IsRetained names n) e kept ]
+pub is_retained : (names : List FileName) (t greatest : ℕ) → 0 < t → IsGreatestRetainedBelow names (t + 1) greatest
+    → greatest ≡ t → IsRetained names t
+is_retained names t greatest positive is e = elim is.is
+    [ inl none ↦ absurd (omega (arith, none, e, positive)) | inr kept ↦ subst (λ n. IsRetained names n) e kept ]
 
 -- the best file reaches no less far than one that may come next after an earlier transaction
 no_less_far : (names : List FileName) (t low from : ℕ) (name one : FileName) → low ≤ from → IsBestNext names t from name
@@ -135,10 +175,12 @@ behind_first names t bound from (name ∷ chain) low short (best, chosen) = (
   behind_first names t bound name.max chain (omega (arith, low, best.leads.next.goes_on)) short chosen,
 )
 
-pub begins_once : (names : List FileName) (t : ℕ) (chain : List FileName) → IsChosenBetween names t 0 chain t → BeginsOnce chain
+pub begins_once : (names : List FileName) (t : ℕ) (chain : List FileName) → IsChosenBetween names t 0 chain t
+    → BeginsOnce chain
 begins_once names t [] chosen = tt
 begins_once names t (first ∷ rest) (best, chosen) =
-    behind_first names t first.max first.max rest (omega arith) (λ other there early within. elim (cases_lt 0 other.max) [
+    behind_first names t first.max first.max rest (omega arith)
+    (λ other there early within. elim (cases_lt 0 other.max) [
       | inl some ↦ (best.best other (record {
         there = there;
         next = record { begins = omega (arith, early); goes_on = some };

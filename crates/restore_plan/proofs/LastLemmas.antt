@@ -1,5 +1,6 @@
 -- The last of the retained transactions at or before a moment, as they rise.
-use Rattle.std.proofs.Common.{◌≡◌, ℕ, ◌<◌, ◌≤◌, inl, inr, List, [], ◌∷◌, ◌++◌, Option, Some, None, IfSome, sym, subst, arith}
+use Rattle.std.proofs.Common.{◌≡◌, ℕ, ◌<◌, ◌≤◌, inl, inr, List, [], ◌∷◌, ◌++◌, Option, Some, None, IfSome, sym, subst}
+use Rattle.std.proofs.Common.{arith}
 use Rattle.std.specs.Prelude.{IsSomeAnd}
 use Rattle.std.proofs.lemmas.Bool.{cases_lt}
 use Rattle.std.specs.List.{Contains}
@@ -18,22 +19,26 @@ module _ (dated : List Dated) (names : List FileName) (moment : ℕ) (same : nam
 
   -- up to a transaction nothing is later
   abbrev pub IsMost : Option ℕ → ℕ → Type 0
-  IsMost last reached = (other : ℕ) → IsRetainedAt dated moment other → other ≤ reached → IsSomeAnd last (λ t. other ≤ t)
+  IsMost last reached = (other : ℕ) → IsRetainedAt dated moment other → other ≤ reached → IsSomeAnd last
+      (λ t. other ≤ t)
 
-  module _ (reached t : ℕ) (chain : List FileName) (leads : LeadsTo names 0 chain reached) (end : IsEndOfNext names reached t)
+  module _ (reached t : ℕ) (chain : List FileName) (leads : LeadsTo names 0 chain reached)
+      (end : IsEndOfNext names reached t)
       (least : (name : FileName) → Contains names name → MayComeNext reached name → t ≤ name.max) where
     abbrev pub longer : List FileName
     longer = chain ++ end.name ∷ []
 
     pub leads_longer : LeadsTo names 0 longer t
-    leads_longer = subst (λ (n : ℕ). LeadsTo names 0 longer n) end.ends (leads_more names 0 chain reached end.name leads end.there end.next)
+    leads_longer = subst (λ (n : ℕ). LeadsTo names 0 longer n) end.ends
+        (leads_more names 0 chain reached end.name leads end.there end.next)
 
     pub beyond : reached < t
     beyond = omega (arith, end.next.goes_on, end.ends)
 
     pub is_at : IsSomeAnd (moment_of dated t) (λ own. own ≤ moment) → IsRetainedAt dated moment t
     is_at early = record {
-      retained = subst (λ (ns : List FileName). IsRetained ns t) same (record { positive = omega (arith, beyond); chain = longer; leads = leads_longer });
+      retained = subst (λ (ns : List FileName). IsRetained ns t) same
+          (record { positive = omega (arith, beyond); chain = longer; leads = leads_longer });
       early = early;
     }
 
@@ -47,14 +52,17 @@ module _ (dated : List Dated) (names : List FileName) (moment : ℕ) (same : nam
     pub most_taken : IsMost (Some t) t
     most_taken other at up_to = up_to
 
-    pub most_passed : (last : Option ℕ) → IsMost last reached → (IsSomeAnd (moment_of dated t) (λ own. own ≤ moment) → ⊥) → IsMost last t
+    pub most_passed : (last : Option ℕ) → IsMost last reached
+        → (IsSomeAnd (moment_of dated t) (λ own. own ≤ moment) → ⊥) → IsMost last t
     most_passed last most late other at up_to = elim (cases_lt reached other) [
-      | inl past ↦ absurd (late (subst (λ (n : ℕ). IsSomeAnd (moment_of dated n) (λ own. own ≤ moment)) (omega (arith, no_less other at past, up_to)) at.early))
+      | inl past ↦ absurd (late (subst (λ (n : ℕ). IsSomeAnd (moment_of dated n) (λ own. own ≤ moment))
+          (omega (arith, no_less other at past, up_to)) at.early))
       | inr within ↦ most other at within
     ]
 
   -- where no file may come next nothing is retained further on
-  pub no_further : (reached : ℕ) → ((name : FileName) → Contains names name → MayComeNext reached name → ⊥) → (other : ℕ) → IsRetainedAt dated moment other
+  pub no_further : (reached : ℕ) → ((name : FileName) → Contains names name → MayComeNext reached name → ⊥)
+      → (other : ℕ) → IsRetainedAt dated moment other
       → other ≤ reached
   no_further reached end other at = elim (cases_lt reached other) [
     | inl past ↦
@@ -69,7 +77,8 @@ module _ (dated : List Dated) (names : List FileName) (moment : ℕ) (same : nam
   last_is None reached is most all = tt
   last_is (Some t) reached is most all = record { is = is; greatest = λ other at. most other at (all other at) }
 
-  pub none_is : (last : Option ℕ) (reached : ℕ) → IsMost last reached → ((other : ℕ) → IsRetainedAt dated moment other → other ≤ reached)
+  pub none_is : (last : Option ℕ) (reached : ℕ) → IsMost last reached
+      → ((other : ℕ) → IsRetainedAt dated moment other → other ≤ reached)
       → IfNone last ((t : ℕ) → IsRetainedAt dated moment t → ⊥)
   none_is None reached most all = λ t at. most t at (all t at)
   none_is (Some t) reached most all = tt

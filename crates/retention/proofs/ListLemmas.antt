@@ -1,5 +1,6 @@
 -- What stands at a place of a list.
-use Rattle.std.proofs.Common.{◌≡◌, ℕ, ◌<◌, ◌≤◌, ◌⊎◌, inl, inr, zero, suc, Bool, true, false, List, [], ◌∷◌, ◌++◌, length, get_or, set, take, Some, None, slice_get, refl, sym, ap, ◌∙◌, arith}
+use Rattle.std.proofs.Common.{◌≡◌, ℕ, ◌<◌, ◌≤◌, ◌⊎◌, inl, inr, zero, suc, Bool, true, false, List, [], ◌∷◌, ◌++◌}
+use Rattle.std.proofs.Common.{length, get_or, set, take, Some, None, slice_get, refl, sym, ap, ◌∙◌, arith}
 use Rattle.std.proofs.lemmas.Bool.{cases_lt}
 use Rattle.std.proofs.lemmas.List.{get_or-set_same, get_or-set_other, length-set}
 use Rattle.std.proofs.lemmas.Option.{slice_get_within, slice_get-get_or, slice_get_past, get_or_from_slice_get}
@@ -14,11 +15,13 @@ pub push_new : {X : Type 0} (xs : List X) (y : X) → slice_get (xs ++ y ∷ [])
 push_new [] y = refl
 push_new (x ∷ xs) y = push_new xs y
 
-pub push_cases : {X : Type 0} (xs : List X) (y z : X) (p : ℕ) → slice_get (xs ++ y ∷ []) p ≡ Some z → (slice_get xs p ≡ Some z) ⊎ ((p ≡ length xs) × (y ≡ z))
+pub push_cases : {X : Type 0} (xs : List X) (y z : X) (p : ℕ) → slice_get (xs ++ y ∷ []) p ≡ Some z
+    → (slice_get xs p ≡ Some z) ⊎ ((p ≡ length xs) × (y ≡ z))
 push_cases [] y z zero is = inr (refl, cc)
 push_cases [] y z (suc p) is = absurd cc
 push_cases (x ∷ xs) y z zero is = inl is
-push_cases (x ∷ xs) y z (suc p) is = elim (push_cases xs y z p is) [ inl old ↦ inl old | inr new ↦ inr (ap suc new.0, new.1) ]
+push_cases (x ∷ xs) y z (suc p) is = elim (push_cases xs y z p is)
+    [ inl old ↦ inl old | inr new ↦ inr (ap suc new.0, new.1) ]
 
 -- one thing at a place
 pub same_at : {X : Type 0} (xs : List X) (i : ℕ) (x y : X) → slice_get xs i ≡ Some x → slice_get xs i ≡ Some y → x ≡ y
@@ -28,11 +31,13 @@ pub at_index : {X : Type 0} (xs : List X) (i : ℕ) (x : X) → i < length xs �
 at_index xs i x low is = slice_get-get_or xs i x low ∙ ap Some (sym is)
 
 pub set_here : {X : Type 0} (xs : List X) (i : ℕ) (x : X) → i < length xs → slice_get (set xs i x) i ≡ Some x
-set_here xs i x low = slice_get-get_or (set xs i x) i x (omega (arith, low, length-set xs i x)) ∙ ap Some (get_or-set_same xs i x x low)
+set_here xs i x low = slice_get-get_or (set xs i x) i x (omega (arith, low, length-set xs i x))
+    ∙ ap Some (get_or-set_same xs i x x low)
 
 pub set_other : {X : Type 0} (xs : List X) (i k : ℕ) (x : X) → (k ≡ i → ⊥) → slice_get (set xs i x) k ≡ slice_get xs k
 set_other xs i k x apart = elim (cases_lt k (length xs)) [
-  | inl low ↦ slice_get-get_or (set xs i x) k x (omega (arith, low, length-set xs i x)) ∙ ap Some (get_or-set_other xs i k x x apart) ∙ sym (slice_get-get_or xs k x low)
+  | inl low ↦ slice_get-get_or (set xs i x) k x (omega (arith, low, length-set xs i x))
+      ∙ ap Some (get_or-set_other xs i k x x apart) ∙ sym (slice_get-get_or xs k x low)
   | inr past ↦ slice_get_past (set xs i x) k (omega (arith, past, length-set xs i x)) ∙ sym (slice_get_past xs k past)
 ]
 
@@ -45,7 +50,8 @@ test_at xs i low = by_value (get_or xs i true) (slice_get-get_or xs i true low)
     by_value false is = inr is
 
 -- a list cut at a place, and one thing behind it
-pub cut_before : {X : Type 0} (xs : List X) (i j : ℕ) (y : X) → j < i → i ≤ length xs → slice_get (take i xs ++ y ∷ []) j ≡ slice_get xs j
+pub cut_before : {X : Type 0} (xs : List X) (i j : ℕ) (y : X) → j < i → i ≤ length xs
+    → slice_get (take i xs ++ y ∷ []) j ≡ slice_get xs j
 cut_before xs zero j y below low = absurd (omega (arith, below))
 cut_before [] (suc i) j y below low = absurd (omega (arith, low))
 cut_before (x ∷ xs) (suc i) zero y below low = refl

@@ -1,6 +1,8 @@
--- Two small lists worked out by hand, so that a wrong definition doesn't check: the files 0/2-2, 0/3-3 and 9/1-1, and the
+-- Two small lists worked out by hand, so that a wrong definition doesn't check: the files 0/2-2, 0/3-3 and 9/1-1, and
+-- the
 -- same with 9/1-3 behind them. The cut is 13600000.
-use Rattle.std.proofs.Common.{◌≡◌, ℕ, ◌+◌, ◌<◌, ◌≤◌, inl, zero, suc, true, false, List, [], ◌∷◌, Some, slice_get, refl, ap, subst, arith}
+use Rattle.std.proofs.Common.{◌≡◌, ℕ, ◌+◌, ◌<◌, ◌≤◌, inl, zero, suc, true, false, List, [], ◌∷◌, Some, slice_get}
+use Rattle.std.proofs.Common.{refl, ap, subst, arith}
 use Rattle.std.specs.List.{Contains}
 use Rattle.replica_store.specs.declared.dated_names.Dated.{Dated}
 use Rattle.replica_store.specs.declared.file_name.FileName.{FileName}
@@ -9,10 +11,26 @@ use Rattle.retention.specs.Protected.{IsProtected, KeepsProtected}
 use Rattle.retention.specs.Walk.{standing, dropped, standing_without, IsWalk}
 
 abbrev two : FileName
-two = record { level = 0; min = 2; max = 2; on_level = refl; in_order = omega arith; from_first = λ h. absurd (omega (arith, h)) }
+two = record {
+  level = 0;
+  min = 2;
+  max = 2;
+  on_level = refl;
+  in_order = omega arith;
+  from_first = λ h. absurd
+      (omega (arith, h));
+}
 
 abbrev three : FileName
-three = record { level = 0; min = 3; max = 3; on_level = refl; in_order = omega arith; from_first = λ h. absurd (omega (arith, h)) }
+three = record {
+  level = 0;
+  min = 3;
+  max = 3;
+  on_level = refl;
+  in_order = omega arith;
+  from_first = λ h. absurd
+      (omega (arith, h));
+}
 
 abbrev one : FileName
 one = record { level = 9; min = 1; max = 1; on_level = refl; in_order = omega arith; from_first = λ _. refl }
@@ -24,10 +42,12 @@ abbrev cut : ℕ
 cut = 13600000
 
 abbrev small : List Dated
-small = (record { name = two; moment = 2000 }) ∷ (record { name = three; moment = 20000000 }) ∷ (record { name = one; moment = 1000 }) ∷ []
+small = (record { name = two; moment = 2000 }) ∷ (record { name = three; moment = 20000000 })
+    ∷ (record { name = one; moment = 1000 }) ∷ []
 
 abbrev larger : List Dated
-larger = (record { name = two; moment = 2000 }) ∷ (record { name = three; moment = 20000000 }) ∷ (record { name = one; moment = 1000 }) ∷ (record { name = whole; moment = 20000000 }) ∷ []
+larger = (record { name = two; moment = 2000 }) ∷ (record { name = three; moment = 20000000 })
+    ∷ (record { name = one; moment = 1000 }) ∷ (record { name = whole; moment = 20000000 }) ∷ []
 
 -- of the larger list the first and the third go
 stand : standing (false ∷ true ∷ false ∷ true ∷ []) larger ≡ three ∷ whole ∷ []
@@ -74,18 +94,22 @@ not_without_two is = from_nothing is.chain is.leads
   where
     from_one : (chain : List FileName) → Rattle.replica_store.specs.Chain.LeadsTo (three ∷ one ∷ []) 1 chain 3 → ⊥
     from_one [] leads = omega (arith, leads)
-    from_one (name ∷ chain) leads = of_two (λ n. MayComeNext 1 n → ⊥) three one name leads.0 (λ h. omega (arith, h.begins)) (λ h. omega (arith, h.goes_on)) leads.1
+    from_one (name ∷ chain) leads = of_two (λ n. MayComeNext 1 n → ⊥) three one name leads.0
+        (λ h. omega (arith, h.begins)) (λ h. omega (arith, h.goes_on)) leads.1
 
     from_nothing : (chain : List FileName) → Rattle.replica_store.specs.Chain.LeadsTo (three ∷ one ∷ []) 0 chain 3 → ⊥
     from_nothing [] leads = omega (arith, leads)
-    from_nothing (name ∷ chain) leads = of_two (λ n. MayComeNext 0 n → Rattle.replica_store.specs.Chain.LeadsTo (three ∷ one ∷ []) n.max chain 3 → ⊥) three one name leads.0 (λ h rest. omega (arith, h.begins)) (λ h rest. from_one chain rest) leads.1 leads.2
+    from_nothing (name ∷ chain) leads = of_two
+        (λ n. MayComeNext 0 n → Rattle.replica_store.specs.Chain.LeadsTo (three ∷ one ∷ []) n.max chain 3 → ⊥) three
+        one name leads.0 (λ h rest. omega (arith, h.begins)) (λ h rest. from_one chain rest) leads.1 leads.2
 
 not_without_one : IsRetained (two ∷ three ∷ []) 3 → ⊥
 not_without_one is = from_nothing is.chain is.leads
   where
     from_nothing : (chain : List FileName) → Rattle.replica_store.specs.Chain.LeadsTo (two ∷ three ∷ []) 0 chain 3 → ⊥
     from_nothing [] leads = omega (arith, leads)
-    from_nothing (name ∷ chain) leads = of_two (λ n. MayComeNext 0 n → ⊥) two three name leads.0 (λ h. omega (arith, h.begins)) (λ h. omega (arith, h.begins)) leads.1
+    from_nothing (name ∷ chain) leads = of_two (λ n. MayComeNext 0 n → ⊥) two three name leads.0
+        (λ h. omega (arith, h.begins)) (λ h. omega (arith, h.begins)) leads.1
 
 -- so none of the small list goes, though two of them are old
 none_goes : IsWalk small cut (true ∷ true ∷ true ∷ [])
@@ -95,15 +119,20 @@ none_goes = record {
   old = old_kept;
 }
   where
-    young_kept : (i : ℕ) (d : Dated) → slice_get small i ≡ Some d → cut ≤ d.moment → slice_get (true ∷ true ∷ true ∷ []) i ≡ Some true
+    young_kept : (i : ℕ) (d : Dated) → slice_get small i ≡ Some d → cut ≤ d.moment
+        → slice_get (true ∷ true ∷ true ∷ []) i ≡ Some true
     young_kept zero d there late = refl
     young_kept (suc zero) d there late = refl
     young_kept (suc (suc zero)) d there late = refl
     young_kept (suc (suc (suc i))) d there late = absurd cc
 
-    old_kept : (i : ℕ) (d : Dated) → slice_get small i ≡ Some d → d.moment < cut → (slice_get (true ∷ true ∷ true ∷ []) i ≡ Some false → KeepsProtected small cut (standing_without (true ∷ true ∷ true ∷ []) i small))
-        × (KeepsProtected small cut (standing_without (true ∷ true ∷ true ∷ []) i small) → slice_get (true ∷ true ∷ true ∷ []) i ≡ Some false)
+    old_kept : (i : ℕ) (d : Dated) → slice_get small i ≡ Some d → d.moment < cut
+        → (slice_get (true ∷ true ∷ true ∷ []) i ≡ Some false
+        → KeepsProtected small cut (standing_without (true ∷ true ∷ true ∷ []) i small))
+        × (KeepsProtected small cut (standing_without (true ∷ true ∷ true ∷ []) i small)
+        → slice_get (true ∷ true ∷ true ∷ []) i ≡ Some false)
     old_kept zero d there early = (λ h. absurd cc, λ keeps. absurd (not_without_two (keeps 3 young_three)))
-    old_kept (suc zero) d there early = let e : (record { name = three; moment = 20000000 }) ≡ d = (cc) in absurd (omega (arith, ap (λ (x : Dated). x.moment) e, early))
+    old_kept (suc zero) d there early = let e : (record { name = three; moment = 20000000 }) ≡ d = (cc) in absurd
+        (omega (arith, ap (λ (x : Dated). x.moment) e, early))
     old_kept (suc (suc zero)) d there early = (λ h. absurd cc, λ keeps. absurd (not_without_one (keeps 3 young_three)))
     old_kept (suc (suc (suc i))) d there early = absurd cc

@@ -12,8 +12,10 @@ size_in_eights n size =
     omega (arith, e)
 
 -- the bytes of a page that stands behind 24 others
-pub page_in_eights : (size : ℕ) (frame : List ℕ) → IsPageSize size → length frame ≡ 24 + size → length (take (24 + size - 24) (drop 24 frame)) % 8 ≡ 0
+pub page_in_eights : (size : ℕ) (frame : List ℕ) → IsPageSize size → length frame ≡ 24 + size
+    → length (take (24 + size - 24) (drop 24 frame)) % 8 ≡ 0
 page_in_eights size frame is_size len =
     let page : 24 + size - 24 ≡ size = omega arith in
-    let many : length (take size (drop 24 frame)) ≡ size = length-take-le size (drop 24 frame) (omega (arith, length-drop 24 frame)) in
+    let many : length (take size (drop 24 frame)) ≡ size = length-take-le size (drop 24 frame)
+    (omega (arith, length-drop 24 frame)) in
     rw (page, many) (size_in_eights size is_size)

@@ -14,7 +14,9 @@ is_no_size : (n : ℕ) (size : Option ℕ) → SomeIff size (IsPageSize n) n →
 is_no_size n None none e = false_from_ne_true _ (λ passes. none (size_from_test n passes))
 is_no_size n (Some size) some e = absurd cc
 
-pub no_size_read : (order : Order) (bytes : List ℕ) (size : Option ℕ) → field_at bytes 4 ≡ 3007000 → SomeIff size (IsPageSize (field_at bytes 8)) (field_at bytes 8) → size ≡ None → read_behind_magic (Some order) bytes ≡ Err BadSize
+pub no_size_read : (order : Order) (bytes : List ℕ) (size : Option ℕ) → field_at bytes 4 ≡ 3007000
+    → SomeIff size (IsPageSize (field_at bytes 8)) (field_at bytes 8) → size ≡ None
+    → read_behind_magic (Some order) bytes ≡ Err BadSize
 no_size_read order bytes size version made none = rw (version, is_no_size (field_at bytes 8) size made none) refl
 
 -- a page size fits four bytes

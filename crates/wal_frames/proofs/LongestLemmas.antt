@@ -7,12 +7,17 @@ use Rattle.wal_frames.proofs.PrefixLemmas.{valid-more, valid-front, stop-valid, 
 
 module _ (front : List ℕ) (h : WalHeader) where
   -- frames are valid where none stops
-  valid_from_none : (before frames : List (List ℕ)) → stop_behind front h before frames ≡ None → AreValid front h before frames
+  valid_from_none : (before frames : List (List ℕ)) → stop_behind front h before frames ≡ None
+      → AreValid front h before frames
   valid_from_none before [] none = tt
-  valid_from_none before (frame ∷ frames) none =
-      (fault-none front h before frame frames none, valid_from_none (before ++ frame ∷ []) frames (stop-rest front h before frame frames none))
+  valid_from_none before (frame ∷ frames) none = (
+    fault-none front h before frame frames none,
+    valid_from_none (before ++ frame ∷ []) frames
+        (stop-rest front h before frame frames none),
+  )
 
-  none_from_valid : (before frames : List (List ℕ)) → AreValid front h before frames → stop_behind front h before frames ≡ None
+  none_from_valid : (before frames : List (List ℕ)) → AreValid front h before frames
+      → stop_behind front h before frames ≡ None
   none_from_valid before [] valid = refl
   none_from_valid before (frame ∷ frames) valid = rw valid.0 (none_from_valid (before ++ frame ∷ []) frames valid.1)
 
@@ -26,5 +31,10 @@ module _ (front : List ℕ) (h : WalHeader) where
         longest = λ others rest e valid.
             let more : valid_behind front h [] all ≡ others ++ valid_behind front h others rest =
             ap (valid_behind front h []) e ∙ valid-more front h [] others rest (none_from_valid [] others valid) in
-            omega (arith, ap (λ (xs : List (List ℕ)). length xs) more, length-append others (valid_behind front h others rest));
+            omega (
+              arith,
+              ap (λ (xs : List (List ℕ)). length xs) more,
+              length-append others
+                  (valid_behind front h others rest),
+            );
       }

@@ -35,14 +35,17 @@ has_sums = refl
 log_with : ℕ → List ℕ
 log_with sum =
     header
-    ++ (0 ∷ 0 ∷ 0 ∷ 1 ∷ 0 ∷ 0 ∷ 0 ∷ 0 ∷ 0 ∷ 0 ∷ 0 ∷ 1 ∷ 0 ∷ 0 ∷ 0 ∷ 2 ∷ 0x76 ∷ 0x92 ∷ 0x58 ∷ 0x77 ∷ 0x6e ∷ 0x49 ∷ 0x53 ∷ 0x3a ∷ []) ++ replicate 512 0
-    ++ (0 ∷ 0 ∷ 0 ∷ 2 ∷ 0 ∷ 0 ∷ 0 ∷ 2 ∷ 0 ∷ 0 ∷ 0 ∷ 1 ∷ 0 ∷ 0 ∷ 0 ∷ 2 ∷ 0xfd ∷ 0x52 ∷ 0xb7 ∷ 0x32 ∷ 0x59 ∷ 0x9a ∷ 0x23 ∷ sum ∷ []) ++ replicate 512 0
+    ++ (0 ∷ 0 ∷ 0 ∷ 1 ∷ 0 ∷ 0 ∷ 0 ∷ 0 ∷ 0 ∷ 0 ∷ 0 ∷ 1 ∷ 0 ∷ 0 ∷ 0 ∷ 2 ∷ 0x76 ∷ 0x92 ∷ 0x58 ∷ 0x77 ∷ 0x6e ∷ 0x49 ∷ 0x53
+    ∷ 0x3a ∷ []) ++ replicate 512 0
+    ++ (0 ∷ 0 ∷ 0 ∷ 2 ∷ 0 ∷ 0 ∷ 0 ∷ 2 ∷ 0 ∷ 0 ∷ 0 ∷ 1 ∷ 0 ∷ 0 ∷ 0 ∷ 2 ∷ 0xfd ∷ 0x52 ∷ 0xb7 ∷ 0x32 ∷ 0x59 ∷ 0x9a ∷ 0x23
+    ∷ sum ∷ []) ++ replicate 512 0
 
 both_are_valid : length (valid_frames (log_with 0xbd)) ≡ 2
 unfolding log_with header read_header field_at sums_of whole_frames fault_behind prefix_sums
 both_are_valid = refl
 
-mark_of_both : last_mark_of (log_with 0xbd) ≡ Some (record { salt1 = 1; salt2 = 2; end = 1104; s0 = 0xfd52_b732; s1 = 0x599a_23bd; commit = 2 })
+mark_of_both : last_mark_of (log_with 0xbd) ≡ Some
+    (record { salt1 = 1; salt2 = 2; end = 1104; s0 = 0xfd52_b732; s1 = 0x599a_23bd; commit = 2 })
 unfolding log_with header read_header field_at sums_of whole_frames fault_behind prefix_sums marks_of
 mark_of_both = refl
 
@@ -81,36 +84,48 @@ second : Mark
 second = record { salt1 = 1; salt2 = 2; end = 1640; s0 = 0xc2cd_5c74; s1 = 0xd45e_3e6d; commit = 4 }
 
 two_marks : marks_of four_frames ≡ first ∷ second ∷ []
-unfolding marks_of four_frames three_frames two_frames frame_of header first second read_header field_at sums_of whole_frames fault_behind prefix_sums
+unfolding marks_of four_frames three_frames two_frames frame_of header first second read_header field_at sums_of
+    whole_frames fault_behind prefix_sums
 two_marks = refl
 
 committed_before_a_loose_frame : committed_part four_frames ≡ three_frames
-unfolding marks_of four_frames three_frames two_frames frame_of header read_header field_at sums_of whole_frames fault_behind prefix_sums
+unfolding marks_of four_frames three_frames two_frames frame_of header read_header field_at sums_of whole_frames
+    fault_behind prefix_sums
 committed_before_a_loose_frame = refl
 
 committed_before_a_part : committed_part (take 1639 three_frames) ≡ two_frames
-unfolding marks_of three_frames two_frames frame_of header read_header field_at sums_of whole_frames fault_behind prefix_sums
+unfolding marks_of three_frames two_frames frame_of header read_header field_at sums_of whole_frames fault_behind
+    prefix_sums
 committed_before_a_part = refl
 
 nothing_committed : committed_part (take 1103 four_frames) ≡ []
-unfolding marks_of four_frames three_frames two_frames frame_of header read_header field_at sums_of whole_frames fault_behind prefix_sums
+unfolding marks_of four_frames three_frames two_frames frame_of header read_header field_at sums_of whole_frames
+    fault_behind prefix_sums
 nothing_committed = refl
 
 -- a database file of two pages and 76 bytes of the third
 file : List ℕ
 file = replicate 1100 7
 
-view_at_the_first : view_at file four_frames first ≡ record { page_size = Some 512; pages = replicate 512 0x11 ∷ replicate 512 0x22 ∷ [] }
-unfolding four_frames three_frames two_frames frame_of header file first read_header field_at sums_of whole_frames fault_behind prefix_sums
+view_at_the_first : view_at file four_frames first ≡ record
+    { page_size = Some 512; pages = replicate 512 0x11 ∷ replicate 512 0x22 ∷ [] }
+unfolding four_frames three_frames two_frames frame_of header file first read_header field_at sums_of whole_frames
+    fault_behind prefix_sums
 view_at_the_first = refl
 
 -- page 1 is that of its last frame, page 3 the file's with zeros behind it, and page 4 is in neither
 view_at_the_second : view_at file four_frames second
-    ≡ record { page_size = Some 512; pages = replicate 512 0x44 ∷ replicate 512 0x22 ∷ (replicate 76 7 ++ replicate 436 0) ∷ replicate 512 0 ∷ [] }
-unfolding four_frames three_frames two_frames frame_of header file second read_header field_at sums_of whole_frames fault_behind prefix_sums
+    ≡ record {
+      page_size = Some 512;
+      pages = replicate 512 0x44 ∷ replicate 512 0x22
+          ∷ (replicate 76 7 ++ replicate 436 0) ∷ replicate 512 0 ∷ [];
+    }
+unfolding four_frames three_frames two_frames frame_of header file second read_header field_at sums_of whole_frames
+    fault_behind prefix_sums
 view_at_the_second = refl
 
-rest_view : view_at_rest 512 (replicate 700 7) ≡ record { page_size = Some 512; pages = replicate 512 7 ∷ (replicate 188 7 ++ replicate 324 0) ∷ [] }
+rest_view : view_at_rest 512 (replicate 700 7) ≡ record
+    { page_size = Some 512; pages = replicate 512 7 ∷ (replicate 188 7 ++ replicate 324 0) ∷ [] }
 rest_view = refl
 
 an_empty_file_has_one_page : view_at_rest 512 [] ≡ record { page_size = Some 512; pages = replicate 512 0 ∷ [] }

@@ -9,7 +9,8 @@ use Rattle.ls_sums.specs.declared.order.Order.TheVariants.{Little, Big}
 use Rattle.ls_sums.specs.declared.wal_sum.WalSum.{WalSum}
 use Rattle.wal_frames.specs.declared.header.WalHeader.{WalHeader}
 use Rattle.wal_frames.specs.declared.frame.Frame.TheVariants.{Valid}
-use Rattle.wal_frames.specs.WalFormat.{field_at, header_front, wal_header_bytes, HasSums, magic, order_of, read_behind_magic, read_header}
+use Rattle.wal_frames.specs.WalFormat.{field_at, header_front, wal_header_bytes, HasSums, magic, order_of}
+use Rattle.wal_frames.specs.WalFormat.{read_behind_magic, read_header}
 use Rattle.wal_frames.specs.WalFrame.{frame_front, frame_bytes, summed_part, sums_after, checked}
 
 -- each number of the header fits four bytes
@@ -77,7 +78,21 @@ module _ (h : WalHeader) where
 
     behind_magic : HasSums h → read_behind_magic (Some h.order) bytes ≡ Ok h
     behind_magic sums =
-        rw (version_read, size_read, test_passes h.size fits.size, front_read, sums, s0_read, s1_read, eq-eqb h.s0 h.s0 refl, eq-eqb h.s1 h.s1 refl, seq_read, salt1_read, salt2_read) refl
+        rw (
+          version_read,
+          size_read,
+          test_passes h.size fits.size,
+          front_read,
+          sums,
+          s0_read,
+          s1_read,
+          eq-eqb h.s0
+              h.s0 refl,
+          eq-eqb h.s1 h.s1 refl,
+          seq_read,
+          salt1_read,
+          salt2_read,
+        ) refl
 
     pub header_reads_back : HasSums h → read_header (wal_header_bytes h) ≡ Ok h
     unfolding read_header bytes
@@ -125,7 +140,9 @@ module _ (h : WalHeader) (sums : WalSum) (number commit : ℕ) (page : List ℕ)
     unfolding frame field_at frame_bytes
     frame_s1_read = big_number-reads_back 4 sums.s1 (drop 24 frame) fits.s1
 
-    pub frame_is_valid : (before : WalSum) → number ≢ 0 → sums ≡ sums_after h.order before (frame_front number commit ++ page) → checked h before (frame_bytes h sums number commit page) ≡ Valid number commit sums
+    pub frame_is_valid : (before : WalSum) → number ≢ 0 → sums ≡ sums_after h.order before
+        (frame_front number commit ++ page) → checked h before (frame_bytes h sums number commit page) ≡ Valid number
+        commit sums
     unfolding frame
     frame_is_valid before some is =
         rw (

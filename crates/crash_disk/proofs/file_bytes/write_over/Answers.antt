@@ -12,8 +12,10 @@ returns-clause-ok c =
     ∙ elim c.if-as_slice-end.branch [
       | then-as_slice-end+in_ok-resize w ↦
           ap (λ file. take at file ++ bytes ++ drop end file) (w.file-is ∙ w.in_ok-resize.ensures.ok)
-          ∙ written_in_grown at bytes c.args.file.now (subst (λ old. length old < end) c.as_slice.ensures w.if-as_slice-end.true)
+          ∙ written_in_grown at bytes c.args.file.now
+          (subst (λ old. length old < end) c.as_slice.ensures w.if-as_slice-end.true)
       | else-as_slice-end w ↦
           ap (λ file. take at file ++ bytes ++ drop end file) w.file-is
-          ∙ written_inside at bytes c.args.file.now (omega (arith, ap length c.as_slice.ensures, w.if-as_slice-end.false))
+          ∙ written_inside at bytes c.args.file.now
+          (omega (arith, ap length c.as_slice.ensures, w.if-as_slice-end.false))
     ]

@@ -14,7 +14,8 @@ loop-at-preserved c = λ register.
     let ring = c.args.ring.now in
     let at = c.loop-at.at in
     let here : at ≡ at + 0 = omega arith in
-    let is_moved = four c.word_at.result c.word_at-in-loop-at.result c.word_at-in-loop-at-2.result c.word_at-in-loop-at-3.result
+    let is_moved = four c.word_at.result c.word_at-in-loop-at.result c.word_at-in-loop-at-2.result
+    c.word_at-in-loop-at-3.result
     (get_or (drop at ring) 4 0) (get_or (drop at ring) 3 0) (get_or (drop at ring) 1 0) (get_or (drop at ring) 0 0)
     (c.word_at.ensures ∙ sym (get_or-drop at ring 4 0)) (c.word_at-in-loop-at.ensures ∙ sym (get_or-drop at ring 3 0))
     (c.word_at-in-loop-at-2.ensures ∙ sym (get_or-drop at ring 1 0))
@@ -27,4 +28,5 @@ pub returns : goal.returns
 returns c = λ register holds.
     let end : c.loop-at.at ≡ 64 = omega arith in
     last_end c.args.ring.now c.args.words.now c.loop-at.after register c.requires.ring c.requires.block holds
-    (subst (λ (at : ℕ). Behind c.args.ring.now c.args.words.now at c.loop-at.after register) end (c.loop-at.invariant register))
+    (subst (λ (at : ℕ). Behind c.args.ring.now c.args.words.now at c.loop-at.after register) end
+    (c.loop-at.invariant register))

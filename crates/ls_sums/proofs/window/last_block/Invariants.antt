@@ -8,4 +8,5 @@ abbrev pub invariant-loop-at : goal.invariant-loop-at
 invariant-loop-at l =
     (register : ℕ)
     → bit_xor l.after (moved (number_of_words (drop l.at l.ring)))
-    ≡ bit_xor (after_bytes register (concat (take l.at l.words))) (after_bits (64 * l.at) (bit_xor register (moved (number_of_words l.ring))))
+    ≡ bit_xor (after_bytes register (concat (take l.at l.words)))
+    (after_bits (64 * l.at) (bit_xor register (moved (number_of_words l.ring))))

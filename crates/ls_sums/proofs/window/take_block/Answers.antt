@@ -11,8 +11,10 @@ loop-at-preserved c =
       fit = are_words-set ring at _ fit
           (xor_fits c.word_of.result _ _ _ _ c.word_of.type_inv (fit (at + 4)) (fit (at + 3)) (fit (at + 1)) (fit at));
       holds = λ register holds.
-          taken_next ring at c.word_of.result _ register c.args.words.now (omega arith) (omega arith) fit c.word_of.type_inv
-          (moved_inside ring at (omega arith) (omega arith)) (omega arith) c.word_of.ensures (c.loop-at.invariant.holds register holds);
+          taken_next ring at c.word_of.result _ register c.args.words.now (omega arith) (omega arith) fit
+          c.word_of.type_inv
+          (moved_inside ring at (omega arith) (omega arith)) (omega arith) c.word_of.ensures
+          (c.loop-at.invariant.holds register holds);
     }
 
 pub loop-at-2-preserved : goal.loop-at-2-preserved
@@ -23,8 +25,10 @@ loop-at-2-preserved c =
     let word = c.word_of-in-loop-at-2 in
     record {
       fit = are_words-set ring at _ fit
-          (xor_fits word.result _ _ _ _ word.type_inv (fit ((at + 4) % 64)) (fit ((at + 3) % 64)) (fit ((at + 1) % 64)) (fit at));
+          (xor_fits word.result _ _ _ _ word.type_inv (fit ((at + 4) % 64)) (fit ((at + 3) % 64))
+          (fit ((at + 1) % 64)) (fit at));
       holds = λ register holds.
           taken_next ring at word.result _ register c.args.words.now (omega arith) (omega arith) fit word.type_inv
-          (moved_round ring at (omega arith) (omega arith)) (omega arith) word.ensures (c.loop-at-2.invariant.holds register holds);
+          (moved_round ring at (omega arith) (omega arith)) (omega arith) word.ensures
+          (c.loop-at-2.invariant.holds register holds);
     }

@@ -10,4 +10,5 @@ loop-block-preserved c = λ register holds.
     let blocks = c.args.blocks.now in
     let i = c.loop-block.block-index in
     subst (λ (x : ℕ). Holds c.take_block.new.ring x) (sym (blocks_next register i blocks (omega arith)))
-    (c.take_block.ensures (after_bytes register (flat_map concat (take i blocks))) (c.loop-block.invariant register holds))
+    (c.take_block.ensures (after_bytes register (flat_map concat (take i blocks)))
+    (c.loop-block.invariant register holds))

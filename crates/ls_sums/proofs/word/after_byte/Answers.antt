@@ -7,5 +7,6 @@ use Rattle.ls_sums.proofs.word.after_byte.Goals as goal
 
 pub returns : goal.returns
 returns c =
-    byte_bits (bit_xor c.args.register c.from.result) (xor_lt 64 c.args.register c.from.result (omega arith) (omega arith))
+    byte_bits (bit_xor c.args.register c.from.result)
+    (xor_lt 64 c.args.register c.from.result (omega arith) (omega arith))
     ∙ ap (λ (x : ℕ). after_bits 8 (bit_xor c.args.register x)) c.from.ensures

@@ -6,6 +6,7 @@ use Rattle.ls_sums.proofs.word.after_words.Goals as goal
 
 pub loop-word-preserved : goal.loop-word-preserved
 loop-word-preserved c =
-    ap (λ (x : ℕ). after_bytes x (concat (drop (c.loop-word.word-index + 1) c.args.words.now))) c.after_eight-after.ensures
+    ap (λ (x : ℕ). after_bytes x (concat (drop (c.loop-word.word-index + 1) c.args.words.now)))
+    c.after_eight-after.ensures
     ∙ register_of_piece c.loop-word.after c.args.words.now c.loop-word.word-index (omega arith)
     ∙ c.loop-word.invariant

@@ -5,8 +5,10 @@ use Rattle.ls_words.proofs.moment.digit_count.Goals as goal
 
 pub returns-then-not-is_ascii_digit-clause-value : goal.returns-then-not-is_ascii_digit-clause-value
 returns-then-not-is_ascii_digit-clause-value c =
-    sym (prefix_len_is is_ascii_digit c.args.text.now c.loop-i.i 0 (omega arith) c.loop-i.invariant (λ lt. sym c.is_ascii_digit.ensures.value ∙ c.if-not-is_ascii_digit.true))
+    sym (prefix_len_is is_ascii_digit c.args.text.now c.loop-i.i 0 (omega arith) c.loop-i.invariant
+    (λ lt. sym c.is_ascii_digit.ensures.value ∙ c.if-not-is_ascii_digit.true))
 
 pub returns-clause-value : goal.returns-clause-value
 returns-clause-value c =
-    sym (prefix_len_is is_ascii_digit c.args.text.now (length c.args.text.now) 0 (omega arith) (λ k lt. c.loop-i.invariant k (omega arith)) (λ lt. absurd (omega arith)))
+    sym (prefix_len_is is_ascii_digit c.args.text.now (length c.args.text.now) 0 (omega arith)
+    (λ k lt. c.loop-i.invariant k (omega arith)) (λ lt. absurd (omega arith)))

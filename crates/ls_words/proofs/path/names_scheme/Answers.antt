@@ -9,4 +9,5 @@ pub returns : goal.returns
 returns c =
     let word = c.args.word.now in
     let holds = contains_text c.contains.result (58 ∷ 47 ∷ 47 ∷ []) word c.contains.ensures.cases in
-    same_from_decides c.contains.result (names_scheme word) (holds.0, holds.1) (slice-from_named word, named-from_slice word)
+    same_from_decides c.contains.result (names_scheme word) (holds.0, holds.1)
+    (slice-from_named word, named-from_slice word)

@@ -2,7 +2,8 @@ use Rattle.std.proofs.Common.{◌≡◌, ◌++◌, ◌∷◌, [], length-append,
 use Rattle.std.specs.FinMap as map
 use Rattle.std.proofs.lemmas.Bool.{ne_eqb}
 use Rattle.std.proofs.lemmas.Result.{err_from_is_err_and}
-use Rattle.ltx_format.proofs.BlockLoop.{begins, entries-empty, goes_on, ends, no_number, no_page, is_done, no_end, entries-insert_last, up_to_more, page_rises}
+use Rattle.ltx_format.proofs.BlockLoop.{begins, entries-empty, goes_on, ends, no_number, no_page, is_done, no_end}
+use Rattle.ltx_format.proofs.BlockLoop.{entries-insert_last, up_to_more, page_rises}
 use Rattle.ltx_format.proofs.block.pages_of.Goals as goal
 
 pub loop-count-init : goal.loop-count-init

@@ -3,7 +3,9 @@ use Rattle.std.specs.Prelude.{bit_or}
 use Rattle.std.proofs.lemmas.List.{length-take-le}
 use Rattle.std.proofs.lemmas.Bool.{eqb-true, eqb-false}
 use Rattle.ltx_reader.proofs.ReaderTestLemmas.{has_err}
-use Rattle.ltx_reader.proofs.ReaderTrailerLemmas.{number_read, number_missing, trailer_read, trailer_short, trailer_cut, behind_short, sum_behind, trailer_reserved, trailer_sum, trailer_extra, trailer_ends}
+use Rattle.ltx_reader.proofs.ReaderTrailerLemmas.{number_read, number_missing, trailer_read, trailer_short, trailer_cut}
+use Rattle.ltx_reader.proofs.ReaderTrailerLemmas.{behind_short, sum_behind, trailer_reserved, trailer_sum}
+use Rattle.ltx_reader.proofs.ReaderTrailerLemmas.{trailer_extra, trailer_ends}
 use Rattle.ltx_reader.proofs.file_end.trailer_of.Goals as goal
 
 pub returns-in_err-check : goal.returns-in_err-check

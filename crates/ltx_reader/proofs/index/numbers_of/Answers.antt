@@ -3,7 +3,8 @@ use Rattle.std.specs.Int.{w32}
 use Rattle.ltx_format.specs.FirstFault.{number}
 use Rattle.ltx_reader.specs.Reader.{bytes_named}
 use Rattle.ltx_reader.proofs.ReaderGivenLemmas.{gives_none, gives_then}
-use Rattle.ltx_reader.proofs.ReaderNumbersLemmas.{listed_none, listed_more, numbers_start, numbers_step, numbers_fail, numbers_end, four_number, listed_at, fault_at}
+use Rattle.ltx_reader.proofs.ReaderNumbersLemmas.{listed_none, listed_more, numbers_start, numbers_step, numbers_fail}
+use Rattle.ltx_reader.proofs.ReaderNumbersLemmas.{numbers_end, four_number, listed_at, fault_at}
 use Rattle.ltx_reader.proofs.index.numbers_of.Goals as goal
 
 pub loop-place-init : goal.loop-place-init
@@ -13,7 +14,8 @@ loop-place-init g c = record {
   later = omega arith;
   gave = gives_none 0 _;
   listed = rw c.new-numbers.ensures (listed_none c.args.header.now);
-  numbers = λ events told. rw c.new-numbers.ensures (numbers_start (bytes_named events c.args.name.now) c.args.header.now
+  numbers = λ events told. rw c.new-numbers.ensures
+      (numbers_start (bytes_named events c.args.name.now) c.args.header.now
       c.args.count c.index_offset-start.result);
 }
 
@@ -71,7 +73,8 @@ loop-place-preserved g c =
 pub returns-clause-value : goal.returns-clause-value
 returns-clause-value g c = λ events told inside.
     let bytes = bytes_named events c.args.name.now in
-    let ended : c.loop-place.place ≡ c.args.count = omega (arith, c.loop-place-test.false, c.loop-place.auto.place-end) in
+    let ended : c.loop-place.place ≡ c.args.count = omega
+    (arith, c.loop-place-test.false, c.loop-place.auto.place-end) in
     let all = listed_at bytes c.args.header.now c.args.count _ _ c.loop-place.numbers
     c.index_offset-start.ensures.value (numbers_end bytes c.args.header.now c.args.count c.index_offset-start.result
     c.loop-place.place c.loop-place.last c.loop-place.numbers ended (c.loop-place.invariant.numbers events told)) in

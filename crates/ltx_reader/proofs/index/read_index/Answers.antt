@@ -1,11 +1,13 @@
 use Rattle.std.proofs.Common.{◌≡◌, ◌∙◌, None, arith, sym}
 use Rattle.std.specs.FinMap.{keys}
 use Rattle.ltx_reader.specs.Reader.{bytes_named}
-use Rattle.ltx_reader.specs.ReaderIndex.{stored_count, index_offset, numbers_from, numbers_fault, index_numbers, length_tests, listed_fault}
+use Rattle.ltx_reader.specs.ReaderIndex.{stored_count, index_offset, numbers_from, numbers_fault, index_numbers}
+use Rattle.ltx_reader.specs.ReaderIndex.{length_tests, listed_fault}
 use Rattle.ltx_format.specs.FirstFault.{first_failed}
 use Rattle.ltx_reader.proofs.ReaderGivenLemmas.{gives_then, gives_within}
 use Rattle.ltx_reader.proofs.ReaderTestLemmas.{passes_on}
-use Rattle.ltx_reader.proofs.ReaderListLemmas.{length_fails, numbers_fails, part_fails, none_fails, numbers_inside, numbers_are, file_listed, passes_file}
+use Rattle.ltx_reader.proofs.ReaderListLemmas.{length_fails, numbers_fails, part_fails, none_fails, numbers_inside}
+use Rattle.ltx_reader.proofs.ReaderListLemmas.{numbers_are, file_listed, passes_file}
 use Rattle.ltx_reader.proofs.index.read_index.Goals as goal
 
 pub returns-in_err-count-clause-value : goal.returns-in_err-count-clause-value

@@ -43,7 +43,8 @@ loop-place-preserved g c =
           (counted_here files cursors place old is so_far.0) in
           let went = takes-drop files cursors place old _ t u middle after is spent in (
             counted_drop files cursors place old _ is so_far.0,
-            takes_then (left_of_all files c.args.cursors.now) (left_of_all files (drop place cursors)) _ s t u before middle
+            takes_then (left_of_all files c.args.cursors.now) (left_of_all files (drop place cursors)) _ s t u before
+                middle
                 after so_far.1 went,
           );
       sized = sized_next (length c.args.page.now) place cursors old _ c.loop-place.invariant.sized low is
@@ -109,7 +110,8 @@ returns-in-Err-Fault-clause-spends g c = λ events told counted.
     let u = c.read_to_end.new.steps in
     let spent = c.read_to_end.ensures.spends events (c.loop-place.invariant.unchanged ∙ told) read.name
     (counted_here files cursors place read is so_far.0) in
-    takes_then (left_of_all files c.args.cursors.now) (left_of_all files (drop place cursors)) nothing s t u before middle
+    takes_then (left_of_all files c.args.cursors.now) (left_of_all files (drop place cursors)) nothing s t u before
+    middle
     after so_far.1 (takes-drop_all files cursors place read t u middle after is spent)
 
 pub returns-in-Err-Disk-clause-spends : goal.returns-in-Err-Disk-clause-spends
@@ -130,7 +132,8 @@ returns-in-Err-Disk-clause-spends g c = λ events told counted.
     let u = c.read_to_end.new.steps in
     let spent = c.read_to_end.ensures.spends events (c.loop-place.invariant.unchanged ∙ told) read.name
     (counted_here files cursors place read is so_far.0) in
-    takes_then (left_of_all files c.args.cursors.now) (left_of_all files (drop place cursors)) nothing s t u before middle
+    takes_then (left_of_all files c.args.cursors.now) (left_of_all files (drop place cursors)) nothing s t u before
+    middle
     after so_far.1 (takes-drop_all files cursors place read t u middle after is spent)
 
 pub returns-clause-spends : goal.returns-clause-spends

@@ -11,7 +11,8 @@ invariant-loop-place g l = record {
   whole : IfTold (g.S.Disk.told l.fn.store) (λ events. AreWholeTo (files_after events) l.place l.fn.cursors l.cursors);
   costs : IfTold (g.S.Disk.told l.fn.store) (λ events. AreCounted (files_after events) l.fn.cursors
       → AreCounted (files_after events) (drop l.place l.cursors)
-      × Takes (left_of_all (files_after events) l.fn.cursors) (left_of_all (files_after events) (drop l.place l.cursors))
+      × Takes (left_of_all (files_after events) l.fn.cursors)
+      (left_of_all (files_after events) (drop l.place l.cursors))
       l.fn.steps l.steps (g.S.Disk.given l.fn.store) (g.S.Disk.given l.store));
   sized : HaveSize (length l.fn.page) l.cursors;
   room : length l.page ≡ length l.fn.page;

@@ -14,7 +14,8 @@ returns-in-Some-clause-lacks c = record {
   named = refl;
   before = c.loop-cursor.invariant;
   lacks = λ lock above numbers below wants.
-      let under = subst (λ (h : LtxHeader). AreBelow numbers (h.commit + 1)) (sym c.header-header.ensures.value) below in (
+      let under = subst (λ (h : LtxHeader). AreBelow numbers (h.commit + 1)) (sym c.header-header.ensures.value) below
+      in (
         c.in-Some.ensures.some lock above numbers under wants,
         subst (λ
             (h : LtxHeader). c.in-Some.number ≤ h.commit) c.header-header.ensures.value

@@ -16,7 +16,8 @@ returns-in-Ok-clause-spends g c = λ events told.
     let files = files_after events in
     let name = c.args.odd.name in
     subst (λ (o : Option Reader). OddIsCounted files name o → Takes (odd_left files name o) nothing c.args.steps.now
-    c.read_to_end.new.steps (g.S.Disk.given c.args.store.now) (g.S.Disk.given c.read_to_end.new.store)) (sym c.in-Some.is)
+    c.read_to_end.new.steps (g.S.Disk.given c.args.store.now) (g.S.Disk.given c.read_to_end.new.store))
+    (sym c.in-Some.is)
     (λ counted. c.read_to_end.ensures.spends events told name counted)
 
 pub returns-in-Err-Fault-clause-spends : goal.returns-in-Err-Fault-clause-spends
@@ -24,7 +25,8 @@ returns-in-Err-Fault-clause-spends g c = λ events told.
     let files = files_after events in
     let name = c.args.odd.name in
     subst (λ (o : Option Reader). OddIsCounted files name o → Takes (odd_left files name o) nothing c.args.steps.now
-    c.read_to_end.new.steps (g.S.Disk.given c.args.store.now) (g.S.Disk.given c.read_to_end.new.store)) (sym c.in-Some.is)
+    c.read_to_end.new.steps (g.S.Disk.given c.args.store.now) (g.S.Disk.given c.read_to_end.new.store))
+    (sym c.in-Some.is)
     (λ counted. c.read_to_end.ensures.spends events told name counted)
 
 pub returns-in-Err-Disk-clause-spends : goal.returns-in-Err-Disk-clause-spends
@@ -32,7 +34,8 @@ returns-in-Err-Disk-clause-spends g c = λ events told.
     let files = files_after events in
     let name = c.args.odd.name in
     subst (λ (o : Option Reader). OddIsCounted files name o → Takes (odd_left files name o) nothing c.args.steps.now
-    c.read_to_end.new.steps (g.S.Disk.given c.args.store.now) (g.S.Disk.given c.read_to_end.new.store)) (sym c.in-Some.is)
+    c.read_to_end.new.steps (g.S.Disk.given c.args.store.now) (g.S.Disk.given c.read_to_end.new.store))
+    (sym c.in-Some.is)
     (λ counted. c.read_to_end.ensures.spends events told name counted)
 
 pub returns-in_default-clause-spends : goal.returns-in_default-clause-spends

@@ -73,6 +73,7 @@ returns-clause-spends g c = λ events told counted odd.
     let middle = g.S.Disk.given c.odd_damage.new.store in
     takes_then (both cursors rest) cursors nothing s t c.first_damage.new.steps before middle
     (g.S.Disk.given c.first_damage.new.store)
-    (takes_by rest nothing (both cursors rest) cursors s t s t before middle (c.odd_damage.ensures.spends events told odd)
+    (takes_by rest nothing (both cursors rest) cursors s t s t before middle
+    (c.odd_damage.ensures.spends events told odd)
     (omega arith) (omega arith))
     (c.first_damage.ensures.spends events (c.odd_damage.ensures.unchanged ∙ told) counted)

@@ -44,7 +44,8 @@ returns-clause-found g c = λ events told.
     (bytes : List ℕ). pages_left bytes reader ≡ pages_of bytes) path
     (c.in-Ok.ensures.pages events told))
     (sym doubt ∙ no_doubt c.doubt.result c.in_default.not-Some)
-    (subst (λ (h : LtxHeader). Wants (lock_page h.size) c.args.pages [] c.new.result) c.header.ensures.value c.new.ensures)
+    (subst (λ (h : LtxHeader). Wants (lock_page h.size) c.args.pages [] c.new.result) c.header.ensures.value
+    c.new.ensures)
 
 pub returns-in-Some-clause-costs : goal.returns-in-Some-clause-costs
 returns-in-Some-clause-costs g c = λ events told.
@@ -78,7 +79,8 @@ returns-in-Err-Fault-clause-costs g c = λ events told.
       tt,
       unopened_takes (bytes_of (files_after events) c.args.name.now) _ _
           (at_path events c.as_str.result.now (path_of c.args.name.now) (λ (bs : List ℕ). GivesAtMost (length bs)
-          (g.S.Disk.given c.args.store.now) (g.S.Disk.given c.begin.new.disk)) path (c.begin.ensures.gave_file events told)),
+          (g.S.Disk.given c.args.store.now) (g.S.Disk.given c.begin.new.disk)) path
+          (c.begin.ensures.gave_file events told)),
     )
 
 pub returns-in-Err-Disk-clause-spends : goal.returns-in-Err-Disk-clause-spends

@@ -1,4 +1,5 @@
-use Rattle.std.proofs.Common.{◌≡◌, ◌+◌, ◌<◌, ◌++◌, [], Some, refl, ◌∙◌, length, drop, slice_get, get_or, ap, sym, subst, arith, rules}
+use Rattle.std.proofs.Common.{◌≡◌, ◌+◌, ◌<◌, ◌++◌, [], Some, refl, ◌∙◌, length, drop, slice_get, get_or, ap, sym, subst}
+use Rattle.std.proofs.Common.{arith, rules}
 use Rattle.std.proofs.lemmas.Option.{slice_get-get_or}
 use Rattle.crash_disk.specs.Output.{gains_text, GainsFront}
 use Rattle.replica_listing.specs.Listing.{file_line, file_lines, listing}

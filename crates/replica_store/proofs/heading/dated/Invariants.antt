@@ -13,5 +13,6 @@ invariant-loop-name g l = record {
   gave : GaveAtMost (l.name-index * 100) (g.S.Disk.given l.initial.store) (g.S.Disk.given l.store);
   later : g.S.Disk.fault_count l.initial.store ≤ g.S.Disk.fault_count l.store;
   names : names_of l.list ≡ take l.name-index l.names;
-  dated : IfTold (g.S.Disk.told l.initial.store) (λ events. AreDatedTo (files_after events) l.names l.name-index l.list);
+  dated : IfTold (g.S.Disk.told l.initial.store)
+      (λ events. AreDatedTo (files_after events) l.names l.name-index l.list);
 }

@@ -10,10 +10,14 @@ pub returns-clause-ok : goal.returns-clause-ok
 returns-clause-ok g c =
     let old = g.S.Disk.told c.args.store.now in
     let new = g.S.Disk.told c.remove.new.self in
-    on_ok_weaker c.remove.result (λ is. dropped old new (path_of c.args.name.now) (subst (λ (q : List ℕ). new ≡ gains old (Removed q)) (c.as_str.ensures ∙ c.write_name.ensures) is)) c.remove.ensures.ok
+    on_ok_weaker c.remove.result (λ is. dropped old new (path_of c.args.name.now)
+    (subst (λ (q : List ℕ). new ≡ gains old (Removed q)) (c.as_str.ensures ∙ c.write_name.ensures) is))
+    c.remove.ensures.ok
 
 pub returns-clause-err : goal.returns-clause-err
 returns-clause-err g c =
     let old = g.S.Disk.told c.args.store.now in
     let new = g.S.Disk.told c.remove.new.self in
-    on_err_weaker c.remove.result (λ is. may_drop old new (path_of c.args.name.now) (subst (λ (q : List ℕ). GainsOrNot old new (Removed q)) (c.as_str.ensures ∙ c.write_name.ensures) is)) c.remove.ensures.err
+    on_err_weaker c.remove.result (λ is. may_drop old new (path_of c.args.name.now)
+    (subst (λ (q : List ℕ). GainsOrNot old new (Removed q)) (c.as_str.ensures ∙ c.write_name.ensures) is))
+    c.remove.ensures.err

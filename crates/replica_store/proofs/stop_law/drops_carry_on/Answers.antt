@@ -8,4 +8,8 @@ pub returns-clause-one_more : goal.returns-clause-one_more
 returns-clause-one_more c = one_more_dropped
 
 pub returns-clause-carry_on : goal.returns-clause-carry_on
-returns-clause-carry_on c = λ history cut before now log paths settled go drops. (drops_carry_on history cut before now log paths settled go drops, drops_crash_faithful history cut before now log paths settled go drops)
+returns-clause-carry_on c = λ history cut before now log paths settled go drops. (
+  drops_carry_on history cut before now log paths settled go drops,
+  drops_crash_faithful history cut before now log
+      paths settled go drops,
+)

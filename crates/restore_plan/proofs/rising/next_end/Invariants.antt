@@ -10,5 +10,6 @@ abbrev pub invariant-loop-walk : goal.invariant-loop-walk
 invariant-loop-walk l = record {
   walks : AreWalks l.names l.after l.walks;
   end : IfSome l.least (IsEndOfNext l.names l.after);
-  least : (k : ℕ) (name : FileName) → k < l.walk-index → Contains l.names name → name.level ≡ slice_index levels k → MayComeNext l.after name → IsNoLater l.least name.max;
+  least : (k : ℕ) (name : FileName) → k < l.walk-index → Contains l.names name → name.level ≡ slice_index levels k
+      → MayComeNext l.after name → IsNoLater l.least name.max;
 }

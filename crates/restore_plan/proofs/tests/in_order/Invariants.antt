@@ -5,4 +5,5 @@ use Rattle.replica_store.specs.Chain.{list_order}
 use Rattle.restore_plan.proofs.tests.in_order.Given as goal
 
 abbrev pub invariant-loop-at : goal.invariant-loop-at
-invariant-loop-at l = (k : ℕ) (d : FileName) → k + 1 < l.at → is_lt (list_order (slice_index_or l.names (k + 1) d) (slice_index_or l.names k d)) ≡ false
+invariant-loop-at l = (k : ℕ) (d : FileName) → k + 1 < l.at → is_lt
+    (list_order (slice_index_or l.names (k + 1) d) (slice_index_or l.names k d)) ≡ false

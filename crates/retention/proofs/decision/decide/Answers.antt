@@ -15,9 +15,13 @@ returns-clause-walk c =
     let cut = c.args.cut in
     let stretches = c.as_slice-stretches.result.now in
     let claims = c.as_slice.result.now in
-    let are = subst (λ s. AreStretches dated cut s) (sym c.as_slice-stretches.ensures.value) c.in_ok-between.ensures.are in
-    let are_claims = subst (λ s. AreClaims dated cut stretches s) (sym c.as_slice.ensures.value) c.in_ok-claims.ensures in
-    IfOk-weaker c.kept_names.result (λ kept. AreKept dated cut stretches claims kept.items) (λ kept. IsWalk dated cut kept.items) (λ kept is. is_walk dated cut stretches claims kept.items are are_claims is) c.kept_names.ensures
+    let are = subst (λ s. AreStretches dated cut s) (sym c.as_slice-stretches.ensures.value)
+    c.in_ok-between.ensures.are in
+    let are_claims = subst (λ s. AreClaims dated cut stretches s) (sym c.as_slice.ensures.value)
+    c.in_ok-claims.ensures in
+    IfOk-weaker c.kept_names.result (λ kept. AreKept dated cut stretches claims kept.items)
+    (λ kept. IsWalk dated cut kept.items)
+    (λ kept is. is_walk dated cut stretches claims kept.items are are_claims is) c.kept_names.ensures
 
 pub returns-clause-protected : goal.returns-clause-protected
 returns-clause-protected c =
@@ -25,9 +29,13 @@ returns-clause-protected c =
     let cut = c.args.cut in
     let stretches = c.as_slice-stretches.result.now in
     let claims = c.as_slice.result.now in
-    let are = subst (λ s. AreStretches dated cut s) (sym c.as_slice-stretches.ensures.value) c.in_ok-between.ensures.are in
-    let are_claims = subst (λ s. AreClaims dated cut stretches s) (sym c.as_slice.ensures.value) c.in_ok-claims.ensures in
-    IfOk-weaker c.kept_names.result (λ kept. AreKept dated cut stretches claims kept.items) (λ kept. KeepsProtected dated cut (standing kept.items dated)) (λ kept is. kept_protects dated cut stretches claims kept.items are are_claims is) c.kept_names.ensures
+    let are = subst (λ s. AreStretches dated cut s) (sym c.as_slice-stretches.ensures.value)
+    c.in_ok-between.ensures.are in
+    let are_claims = subst (λ s. AreClaims dated cut stretches s) (sym c.as_slice.ensures.value)
+    c.in_ok-claims.ensures in
+    IfOk-weaker c.kept_names.result (λ kept. AreKept dated cut stretches claims kept.items)
+    (λ kept. KeepsProtected dated cut (standing kept.items dated))
+    (λ kept is. kept_protects dated cut stretches claims kept.items are are_claims is) c.kept_names.ensures
 
 pub returns-clause-least : goal.returns-clause-least
 returns-clause-least c =
@@ -35,6 +43,10 @@ returns-clause-least c =
     let cut = c.args.cut in
     let stretches = c.as_slice-stretches.result.now in
     let claims = c.as_slice.result.now in
-    let are = subst (λ s. AreStretches dated cut s) (sym c.as_slice-stretches.ensures.value) c.in_ok-between.ensures.are in
-    let are_claims = subst (λ s. AreClaims dated cut stretches s) (sym c.as_slice.ensures.value) c.in_ok-claims.ensures in
-    IfOk-weaker c.kept_names.result (λ kept. AreKept dated cut stretches claims kept.items) (λ kept. IsLeast dated cut kept.items) (λ kept is. kept_is_least dated cut stretches claims kept.items are are_claims is) c.kept_names.ensures
+    let are = subst (λ s. AreStretches dated cut s) (sym c.as_slice-stretches.ensures.value)
+    c.in_ok-between.ensures.are in
+    let are_claims = subst (λ s. AreClaims dated cut stretches s) (sym c.as_slice.ensures.value)
+    c.in_ok-claims.ensures in
+    IfOk-weaker c.kept_names.result (λ kept. AreKept dated cut stretches claims kept.items)
+    (λ kept. IsLeast dated cut kept.items)
+    (λ kept is. kept_is_least dated cut stretches claims kept.items are are_claims is) c.kept_names.ensures

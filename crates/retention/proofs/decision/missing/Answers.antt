@@ -16,13 +16,18 @@ loop-t-preserved c =
     elim c.if-is_none.branch [
       | then-is_none+in_ok-push w ↦
           let items : lost ++ t ∷ [] ≡ c.if-is_none.lost.items = cc (w.in_ok-push.ensures.items) in
-          let absent = not_there after t c.place_of.result (c.is_none.ensures ∙ ap not w.if-is_none.true) c.place_of.ensures.none in
-          subst (λ ts. AreMissingTo before after (i + 1) ts) items (missing_more before after i t lost c.requires.before low is absent c.loop-t.invariant)
+          let absent = not_there after t c.place_of.result (c.is_none.ensures ∙ ap not w.if-is_none.true)
+          c.place_of.ensures.none in
+          subst (λ ts. AreMissingTo before after (i + 1) ts) items
+          (missing_more before after i t lost c.requires.before low is absent c.loop-t.invariant)
       | else-is_none w ↦
           let items : lost ≡ c.if-is_none.lost.items = cc in
-          let there = found_there after t c.place_of.result (c.is_none.ensures ∙ ap not w.if-is_none.false) c.place_of.ensures.found in
-          subst (λ ts. AreMissingTo before after (i + 1) ts) items (missing_passes before after i t lost is there c.loop-t.invariant)
+          let there = found_there after t c.place_of.result (c.is_none.ensures ∙ ap not w.if-is_none.false)
+          c.place_of.ensures.found in
+          subst (λ ts. AreMissingTo before after (i + 1) ts) items
+          (missing_passes before after i t lost is there c.loop-t.invariant)
     ]
 
 pub returns : goal.returns
-returns c = missing_all c.args.before.now c.args.after.now c.loop-t.t-index c.loop-t.lost.items (omega arith) c.loop-t.invariant
+returns c = missing_all c.args.before.now c.args.after.now c.loop-t.t-index c.loop-t.lost.items (omega arith)
+    c.loop-t.invariant

@@ -13,10 +13,13 @@ of-requires c =
     let before = c.in_ok-before.before.items in
     let after = c.in_ok-after.after.items in
     let lost = c.in_ok-lost.lost.items in
-    let are_before = subst (λ names. AreRetained names before) (c.as_slice.ensures.value ∙ c.in_ok-all.ensures) c.in_ok-before.ensures in
-    let stands : c.as_slice-4.result.now ≡ standing kept dated = c.as_slice-4.ensures.value ∙ c.in_ok-stay.ensures ∙ ap (λ ks. standing ks dated) c.as_slice-3.ensures.value in
+    let are_before = subst (λ names. AreRetained names before) (c.as_slice.ensures.value ∙ c.in_ok-all.ensures)
+    c.in_ok-before.ensures in
+    let stands : c.as_slice-4.result.now ≡ standing kept dated = c.as_slice-4.ensures.value ∙ c.in_ok-stay.ensures
+    ∙ ap (λ ks. standing ks dated) c.as_slice-3.ensures.value in
     let are_after = subst (λ names. AreRetained names after) stands c.in_ok-after.ensures in
-    let are_missing = subst (λ ts. AreMissing ts after lost) c.as_slice-5.ensures.value (subst (λ ts. AreMissing c.as_slice-5.result.now ts lost) c.as_slice-6.ensures.value c.in_ok-lost.ensures) in
+    let are_missing = subst (λ ts. AreMissing ts after lost) c.as_slice-5.ensures.value
+    (subst (λ ts. AreMissing c.as_slice-5.result.now ts lost) c.as_slice-6.ensures.value c.in_ok-lost.ensures) in
     let is : AreDrops dated c.args.cut c.in_ok-names.names.items lost = record {
       kept = kept;
       walk = c.in_ok-kept.ensures.walk;

@@ -8,8 +8,10 @@ use Rattle.retention.proofs.kept.kept_names.Goals as goal
 pub loop-p-init : goal.loop-p-init
 loop-p-init c = (
   omega arith,
-  subst (λ skips. AreKeptFrom c.args.dated.now c.args.cut c.args.stretches.now c.args.claims.now (length c.args.claims.now) skips c.in_ok-kept.kept.items) (sym c.as_mut_slice-skips.ensures.value)
-      (kept_none c.args.dated.now c.args.cut c.args.stretches.now c.args.claims.now (length c.args.claims.now) c.in_ok-painting.painting.items c.in_ok-kept.kept.items (omega arith)
+  subst (λ skips. AreKeptFrom c.args.dated.now c.args.cut c.args.stretches.now c.args.claims.now
+      (length c.args.claims.now) skips c.in_ok-kept.kept.items) (sym c.as_mut_slice-skips.ensures.value)
+      (kept_none c.args.dated.now c.args.cut c.args.stretches.now c.args.claims.now (length c.args.claims.now)
+      c.in_ok-painting.painting.items c.in_ok-kept.kept.items (omega arith)
       c.in_ok-painting.ensures.skips c.in_ok-painting.ensures.count c.in_ok-painting.ensures.none c.in_ok-kept.ensures),
 )
 
@@ -54,10 +56,14 @@ loop-p-preserved-then-not-is_painted c =
     let low = slice_get_within dated claim.name mine.one mine.there in
     let one = c.index-dated-claim.result in
     let next : c.loop-p.p ≡ p + 1 = omega arith in
-    let before = subst (λ n. AreKeptFrom dated c.args.cut stretches claims n c.loop-p.skips c.loop-p.kept.items) next c.loop-p.invariant.1 in (
+    let before = subst (λ n. AreKeptFrom dated c.args.cut stretches claims n c.loop-p.skips c.loop-p.kept.items) next
+    c.loop-p.invariant.1 in (
       omega (arith, within),
-      kept_takes dated c.args.cut stretches claims p c.span_of.result.from c.span_of.result.to c.loop-p.skips c.paint.new.skips c.loop-p.kept.items claim one c.requires.claims there
-          (λ is. false≢true (sym c.if-not-is_painted.true ∙ c.is_painted.ensures.1 is)) (at_index dated claim.name one low c.index-dated-claim.is) c.span_of.ensures c.paint.ensures.skips c.paint.ensures.painted before,
+      kept_takes dated c.args.cut stretches claims p c.span_of.result.from c.span_of.result.to c.loop-p.skips
+          c.paint.new.skips c.loop-p.kept.items claim one c.requires.claims there
+          (λ is. false≢true (sym c.if-not-is_painted.true ∙ c.is_painted.ensures.1 is))
+          (at_index dated claim.name one low c.index-dated-claim.is) c.span_of.ensures c.paint.ensures.skips
+          c.paint.ensures.painted before,
     )
 
 pub loop-p-preserved : goal.loop-p-preserved
@@ -70,5 +76,9 @@ loop-p-preserved c =
     let within : p < length claims = omega (arith, c.loop-p.invariant.0) in
     let there = slice_get-get_or claims p (record { name = 0; stretch = 0 }) within in
     let next : c.loop-p.p ≡ p + 1 = omega arith in
-    let before = subst (λ n. AreKeptFrom dated c.args.cut stretches claims n c.loop-p.skips c.loop-p.kept.items) next c.loop-p.invariant.1 in
-    (omega (arith, within), kept_passes dated c.args.cut stretches claims p c.loop-p.skips c.loop-p.kept.items claim c.requires.claims there (c.is_painted.ensures.0 c.if-not-is_painted.false) before)
+    let before = subst (λ n. AreKeptFrom dated c.args.cut stretches claims n c.loop-p.skips c.loop-p.kept.items) next
+    c.loop-p.invariant.1 in (
+      omega (arith, within),
+      kept_passes dated c.args.cut stretches claims p c.loop-p.skips c.loop-p.kept.items claim
+          c.requires.claims there (c.is_painted.ensures.0 c.if-not-is_painted.false) before,
+    )

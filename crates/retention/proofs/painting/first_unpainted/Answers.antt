@@ -9,4 +9,5 @@ loop-at-preserved c =
     let at = c.loop-at.at in
     let low : at < length skips = omega arith in
     let first = get_or skips at 0 in
-    (seek_on c.args.skips.now skips c.args.from at first c.skip_from-next.result c.loop-at.invariant low (get_or_default skips at 0 first low) c.if-skips-at.true c.skip_from-next.ensures).0
+    (seek_on c.args.skips.now skips c.args.from at first c.skip_from-next.result c.loop-at.invariant low
+    (get_or_default skips at 0 first low) c.if-skips-at.true c.skip_from-next.ensures).0

@@ -12,11 +12,13 @@ returns-clause-none c =
     let ts = c.args.ts.now in
     let t = c.args.t in
     let at = c.partition_point-at.result in
-    let point = IsPartitionPoint-from_clause (λ n. nat_lt n t) ts at c.partition_point-at.ensures.partitioned (IsPartitionedBy-ltb (λ n. n) ts t (rises_by ts c.requires)) (λ a r q k. search rules) in
+    let point = IsPartitionPoint-from_clause (λ n. nat_lt n t) ts at c.partition_point-at.ensures.partitioned
+    (IsPartitionedBy-ltb (λ n. n) ts t (rises_by ts c.requires)) (λ a r q k. search rules) in
     not_at_place ts t at c.requires
     (λ k below. ltb-true (get_or ts k 0) t (point.0 k 0 (omega arith) below))
     (λ k from low. ltb-false (get_or ts k 0) t (point.1 k 0 from low))
     (λ low is. elim c.else-at-ts.branch [
-      | else-at-ts-via-then-at-ts+else-number w ↦ let e = get_or_read ts at w.index-ts-at.result low w.index-ts-at.is 0 in w.if-number.false (omega (arith, w.number.ensures.value, w.number-then-at-ts.ensures.value, e, is))
+      | else-at-ts-via-then-at-ts+else-number w ↦ let e = get_or_read ts at w.index-ts-at.result low w.index-ts-at.is
+          0 in w.if-number.false (omega (arith, w.number.ensures.value, w.number-then-at-ts.ensures.value, e, is))
       | else-at-ts-via-else-at-ts w ↦ omega (arith, w.if-at-ts.false)
     ])

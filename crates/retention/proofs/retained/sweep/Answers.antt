@@ -15,16 +15,22 @@ loop-name-preserved c =
     elim c.if-may_come_next.branch [
       | then-may_come_next+in_ok-push w ↦
           let next : MayComeNext c.loop-name.reached name = c.may_come_next.ensures.0 w.if-may_come_next.true in
-          let reached : name.max ≡ c.if-may_come_next.reached = omega (arith, w.reached-is, w.number-reached.ensures.value) in
+          let reached : name.max ≡ c.if-may_come_next.reached = omega
+          (arith, w.reached-is, w.number-reached.ensures.value) in
           let items : ts ++ name.max ∷ [] ≡ c.if-may_come_next.retained.items = cc (w.in_ok-push.ensures.items) in
-          let taken = swept_takes names c.requires i c.loop-name.reached ts name low c.name-item.is c.loop-name.invariant next in
-          subst (λ n. IsSwept names (i + 1) n c.if-may_come_next.retained.items) reached (subst (λ xs. IsSwept names (i + 1) name.max xs) items taken)
+          let taken = swept_takes names c.requires i c.loop-name.reached ts name low c.name-item.is
+          c.loop-name.invariant next in
+          subst (λ n. IsSwept names (i + 1) n c.if-may_come_next.retained.items) reached
+          (subst (λ xs. IsSwept names (i + 1) name.max xs) items taken)
       | else-may_come_next w ↦
           let reached : c.loop-name.reached ≡ c.if-may_come_next.reached = cc in
           let items : ts ≡ c.if-may_come_next.retained.items = cc in
-          let passed = swept_passes names i c.loop-name.reached ts name low c.name-item.is c.loop-name.invariant (λ h. false≢true (sym w.if-may_come_next.false ∙ c.may_come_next.ensures.1 h)) in
-          subst (λ n. IsSwept names (i + 1) n c.if-may_come_next.retained.items) reached (subst (λ xs. IsSwept names (i + 1) c.loop-name.reached xs) items passed)
+          let passed = swept_passes names i c.loop-name.reached ts name low c.name-item.is c.loop-name.invariant
+          (λ h. false≢true (sym w.if-may_come_next.false ∙ c.may_come_next.ensures.1 h)) in
+          subst (λ n. IsSwept names (i + 1) n c.if-may_come_next.retained.items) reached
+          (subst (λ xs. IsSwept names (i + 1) c.loop-name.reached xs) items passed)
     ]
 
 pub returns : goal.returns
-returns c = swept_all c.args.by_end.now c.loop-name.name-index c.loop-name.reached c.loop-name.retained.items (omega arith) c.loop-name.invariant
+returns c = swept_all c.args.by_end.now c.loop-name.name-index c.loop-name.reached c.loop-name.retained.items
+    (omega arith) c.loop-name.invariant

@@ -12,7 +12,8 @@ returns-in_err-drop_file-clause-err c =
     let before = c.args.store.now.events in
     let now = c.drop_file.new.store.events in
     err_leaves c.from_residual.result _
-    (first_drop_failed c.args.first.now c.args.second.now before now now (went before now (MayDrop (path_of c.args.first.now)) c.in_err-drop_file.ensures.err))
+    (first_drop_failed c.args.first.now c.args.second.now before now now
+    (went before now (MayDrop (path_of c.args.first.now)) c.in_err-drop_file.ensures.err))
 
 pub returns-in_err-drop_file-2-clause-err : goal.returns-in_err-drop_file-2-clause-err
 returns-in_err-drop_file-2-clause-err c =
@@ -20,7 +21,8 @@ returns-in_err-drop_file-2-clause-err c =
     let mid = c.drop_file.new.store.events in
     let now = c.drop_file-2.new.store.events in
     err_leaves c.from_residual-in_err-drop_file-2.result _
-    (second_drop_failed c.args.first.now c.args.second.now before mid now (dropped before mid (path_of c.args.first.now) c.in_ok-drop_file.ensures.ok)
+    (second_drop_failed c.args.first.now c.args.second.now before mid now
+    (dropped before mid (path_of c.args.first.now) c.in_ok-drop_file.ensures.ok)
     (went mid now (MayDrop (path_of c.args.second.now)) c.in_err-drop_file-2.ensures.err))
 
 pub returns-clause-ok : goal.returns-clause-ok
@@ -30,8 +32,10 @@ returns-clause-ok c =
     let now = c.drop_file-2.new.store.events in
     let after = c.settle.new.store.events in
     on_ok_weaker c.settle.result
-    (λ goes. drops_both c.args.first.now c.args.second.now before mid now after (dropped before mid (path_of c.args.first.now) c.in_ok-drop_file.ensures.ok)
-    (dropped mid now (path_of c.args.second.now) c.in_ok-drop_file-2.ensures.ok) (went now after HasSyncedNames goes)) c.settle.ensures.ok
+    (λ goes. drops_both c.args.first.now c.args.second.now before mid now after
+    (dropped before mid (path_of c.args.first.now) c.in_ok-drop_file.ensures.ok)
+    (dropped mid now (path_of c.args.second.now) c.in_ok-drop_file-2.ensures.ok) (went now after HasSyncedNames goes))
+    c.settle.ensures.ok
 
 pub returns-clause-err : goal.returns-clause-err
 returns-clause-err c =
@@ -41,5 +45,6 @@ returns-clause-err c =
     let after = c.settle.new.store.events in
     on_err_weaker c.settle.result
     (λ same. subst (MayDropBoth c.args.first.now c.args.second.now before) (sym (some_same after now same))
-    (second_drop_failed c.args.first.now c.args.second.now before mid now (dropped before mid (path_of c.args.first.now) c.in_ok-drop_file.ensures.ok)
+    (second_drop_failed c.args.first.now c.args.second.now before mid now
+    (dropped before mid (path_of c.args.first.now) c.in_ok-drop_file.ensures.ok)
     (dropped mid now (path_of c.args.second.now) c.in_ok-drop_file-2.ensures.ok))) c.settle.ensures.err

@@ -14,8 +14,19 @@ returns-clause-bytes c =
     let into = c.put_number-6.new.into in
     let size : c.get.result ≡ c.args.head.now.size = c.get.ensures.value in
     let len : length (drop 24 into) ≡ c.args.head.now.size = length-drop 24 into ∙ omega (arith, c.requires.room) in
-    let none : drop (24 + c.get.result - 24) (drop 24 into) ≡ [] = drop_all (24 + c.get.result - 24) (drop 24 into) (omega (arith, len, size)) in
-    rw (c.copy_from_slice.ensures.after, none, append-nil c.args.page.now, c.put_number-6.ensures.bytes, c.put_number-5.ensures.bytes, c.put_number-4.ensures.bytes, c.put_number-3.ensures.bytes, c.put_number-2.ensures.bytes, c.put_number.ensures.bytes) refl
+    let none : drop (24 + c.get.result - 24) (drop 24 into) ≡ [] = drop_all (24 + c.get.result - 24) (drop 24 into)
+    (omega (arith, len, size)) in
+    rw (
+      c.copy_from_slice.ensures.after,
+      none,
+      append-nil c.args.page.now,
+      c.put_number-6.ensures.bytes,
+      c.put_number-5.ensures.bytes,
+      c.put_number-4.ensures.bytes,
+      c.put_number-3.ensures.bytes,
+      c.put_number-2.ensures.bytes,
+      c.put_number.ensures.bytes,
+    ) refl
 
 pub returns-clause-value : goal.returns-clause-value
 returns-clause-value c = search rules
@@ -32,4 +43,5 @@ returns-clause-valid c some =
       s0 = c.put_number-5.ensures.fits;
       s1 = c.put_number-6.ensures.fits;
     } in
-    rw (returns-clause-bytes c) (frame_is_valid h sums c.args.number c.args.commit c.args.page.now fits c.args.sums some (returns-clause-value c))
+    rw (returns-clause-bytes c) (frame_is_valid h sums c.args.number c.args.commit c.args.page.now fits c.args.sums
+    some (returns-clause-value c))

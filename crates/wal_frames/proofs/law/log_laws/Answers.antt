@@ -1,4 +1,6 @@
-use Rattle.wal_frames.proofs.LogLemmas.{growing_keeps, last_never_earlier, cut_keeps, by_its_bytes, ends_within, last_is_greatest, one_mark_an_end, committed_marks, committed_twice, frame_stands}
+use Rattle.wal_frames.proofs.LogLemmas.{growing_keeps, last_never_earlier, cut_keeps, by_its_bytes, ends_within}
+use Rattle.wal_frames.proofs.LogLemmas.{last_is_greatest, one_mark_an_end, committed_marks, committed_twice}
+use Rattle.wal_frames.proofs.LogLemmas.{frame_stands}
 use Rattle.wal_frames.proofs.law.log_laws.Goals as goal
 
 pub returns-clause-grown : goal.returns-clause-grown

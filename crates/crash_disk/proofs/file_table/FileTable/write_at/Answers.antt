@@ -2,34 +2,46 @@ use Rattle.std.proofs.Common.{◌<◌, ◌^◌, length, refl, ap, ◌∙◌}
 use Rattle.std.specs.FinMap.{get}
 use Rattle.crash_disk.specs.Files.{changed, with_bytes_at}
 use Rattle.crash_disk.proofs.ResultLemmas.{on_err}
-use Rattle.crash_disk.proofs.TableLemmas.{by_name-kept, by_name-writes, by_name-changes, by_name-absent, insert-IsShort, short_at, found_by_name}
+use Rattle.crash_disk.proofs.TableLemmas.{by_name-kept, by_name-writes, by_name-changes, by_name-absent, insert-IsShort}
+use Rattle.crash_disk.proofs.TableLemmas.{short_at, found_by_name}
 use Rattle.crash_disk.proofs.InPlaceLemmas.{short-with_bytes_at}
 use Rattle.crash_disk.proofs.file_table.FileTable.write_at.Goals as goal
 
 pub returns-in_default-clause-ok : goal.returns-in_default-clause-ok
 returns-in_default-clause-ok c =
-    by_name-absent c.args.name.now c.self.inside.files c.get_mut.follows.lender-at-none (with_bytes_at c.args.at c.args.bytes.now) c.get_mut.result c.in_default.is c.get_mut.ensures.value c.get_mut.follows.holds-at-none
-    ∙ ap (λ m. changed m c.args.name.now (get m c.args.name.now) (with_bytes_at c.args.at c.args.bytes.now)) c.self.view_is
+    by_name-absent c.args.name.now c.self.inside.files c.get_mut.follows.lender-at-none
+    (with_bytes_at c.args.at c.args.bytes.now) c.get_mut.result c.in_default.is c.get_mut.ensures.value
+    c.get_mut.follows.holds-at-none
+    ∙ ap (λ m. changed m c.args.name.now (get m c.args.name.now) (with_bytes_at c.args.at c.args.bytes.now))
+    c.self.view_is
 
 pub invariant_of-self-in_err-write_over : goal.invariant_of-self-in_err-write_over
 invariant_of-self-in_err-write_over c =
     let w = c.write_over.new.file in
-    rw (by_name-kept c.args.name.now c.self.inside.files (c.get_mut.follows.lender w) c.in-Some.file.now w c.in-Some.ensures.value c.in_err-write_over.ensures.err (c.get_mut.follows.holds w)) c.self.invariant
+    rw (by_name-kept c.args.name.now c.self.inside.files (c.get_mut.follows.lender w) c.in-Some.file.now w
+    c.in-Some.ensures.value c.in_err-write_over.ensures.err (c.get_mut.follows.holds w)) c.self.invariant
 
 pub returns-in_err-write_over-clause-err : goal.returns-in_err-write_over-clause-err
 returns-in_err-write_over-clause-err c =
     let w = c.write_over.new.file in
-    on_err _ _ (by_name-kept c.args.name.now c.self.inside.files (c.get_mut.follows.lender w) c.in-Some.file.now w c.in-Some.ensures.value c.in_err-write_over.ensures.err (c.get_mut.follows.holds w) ∙ c.self.view_is)
+    on_err _ _ (by_name-kept c.args.name.now c.self.inside.files (c.get_mut.follows.lender w) c.in-Some.file.now w
+    c.in-Some.ensures.value c.in_err-write_over.ensures.err (c.get_mut.follows.holds w) ∙ c.self.view_is)
 
 pub invariant_of-self-2 : goal.invariant_of-self-2
 invariant_of-self-2 c =
     let w = c.write_over.new.file in
     let old = c.in-Some.file.now in
-    let was : length old < 2 ^ 63 = short_at _ c.args.name.now old c.self.invariant (found_by_name c.args.name.now c.self.inside.files _ c.in-Some.ensures.value) in
-    let short : length w < 2 ^ 63 = rw c.in_ok-write_over.ensures.ok (short-with_bytes_at c.args.at c.args.bytes.now old c.in_ok-write_over.ensures.short was) in
-    rw (by_name-writes c.args.name.now c.self.inside.files (c.get_mut.follows.lender w) old w c.in-Some.ensures.value (c.get_mut.follows.holds w)) (insert-IsShort _ c.args.name.now w c.self.invariant short)
+    let was : length old < 2 ^ 63 = short_at _ c.args.name.now old c.self.invariant
+    (found_by_name c.args.name.now c.self.inside.files _ c.in-Some.ensures.value) in
+    let short : length w < 2 ^ 63 = rw c.in_ok-write_over.ensures.ok
+    (short-with_bytes_at c.args.at c.args.bytes.now old c.in_ok-write_over.ensures.short was) in
+    rw (by_name-writes c.args.name.now c.self.inside.files (c.get_mut.follows.lender w) old w c.in-Some.ensures.value
+    (c.get_mut.follows.holds w)) (insert-IsShort _ c.args.name.now w c.self.invariant short)
 
 pub returns-clause-ok : goal.returns-clause-ok
 returns-clause-ok c =
-    by_name-changes c.args.name.now c.self.inside.files (c.get_mut.follows.lender c.write_over.new.file) c.in-Some.file.now c.write_over.new.file (with_bytes_at c.args.at c.args.bytes.now) c.in_ok-write_over.ensures.ok c.in-Some.ensures.value (c.get_mut.follows.holds c.write_over.new.file)
-    ∙ ap (λ m. changed m c.args.name.now (get m c.args.name.now) (with_bytes_at c.args.at c.args.bytes.now)) c.self.view_is
+    by_name-changes c.args.name.now c.self.inside.files (c.get_mut.follows.lender c.write_over.new.file)
+    c.in-Some.file.now c.write_over.new.file (with_bytes_at c.args.at c.args.bytes.now)
+    c.in_ok-write_over.ensures.ok c.in-Some.ensures.value (c.get_mut.follows.holds c.write_over.new.file)
+    ∙ ap (λ m. changed m c.args.name.now (get m c.args.name.now) (with_bytes_at c.args.at c.args.bytes.now))
+    c.self.view_is

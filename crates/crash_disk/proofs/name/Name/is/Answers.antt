@@ -5,4 +5,5 @@ use Rattle.crash_disk.proofs.name.Name.is.Goals as goal
 
 pub returns : goal.returns
 returns c =
-    c.eq.ensures ∙ ap (bytes_eq c.args.text.now) (c.as_str.ensures.value ∙ c.self.view_is) ∙ sym (is_eq-slice_cmp c.args.text.now c.args.self.now)
+    c.eq.ensures ∙ ap (bytes_eq c.args.text.now) (c.as_str.ensures.value ∙ c.self.view_is)
+    ∙ sym (is_eq-slice_cmp c.args.text.now c.args.self.now)

@@ -6,4 +6,5 @@ use Rattle.ls_sums.proofs.wal_sum.WalSum.over_little.Given as goal
 
 abbrev pub invariant-loop-pair : goal.invariant-loop-pair
 invariant-loop-pair l =
-    after_words l.sum (words Little (concat (drop l.pair-index l.pairs))) ≡ after_words l.initial.sum (words Little (concat l.pairs))
+    after_words l.sum (words Little (concat (drop l.pair-index l.pairs))) ≡ after_words l.initial.sum
+    (words Little (concat l.pairs))

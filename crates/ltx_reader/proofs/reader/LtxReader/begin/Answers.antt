@@ -2,7 +2,8 @@ use Rattle.std.proofs.Common.{◌∙◌, ℕ, List, Some, None, subst, refl, ari
 use Rattle.ltx_reader.specs.Reader.{bytes_named}
 use Rattle.ltx_reader.specs.ReaderSteps.{IsFilled}
 use Rattle.ltx_format.proofs.FrontLemmas.{no_header_fault}
-use Rattle.ltx_reader.proofs.ReaderBeginLemmas.{header_short, header_stops, front_read, has_in_front, fault_in_front, summed_header, begins, told_err}
+use Rattle.ltx_reader.proofs.ReaderBeginLemmas.{header_short, header_stops, front_read, has_in_front, fault_in_front}
+use Rattle.ltx_reader.proofs.ReaderBeginLemmas.{summed_header, begins, told_err}
 use Rattle.ltx_reader.proofs.ReaderGivenLemmas.{gives_file}
 use Rattle.ltx_reader.proofs.reader.LtxReader.begin.Goals as goal
 

@@ -3,7 +3,8 @@ use Rattle.ltx_format.specs.FirstFault.{first_failed, entry_tests}
 use Rattle.ltx_reader.specs.Reader.{Reader, bytes_named}
 use Rattle.ltx_reader.specs.ReaderSteps.{StandAt, reaches}
 use Rattle.ltx_reader.proofs.ReaderGivenLemmas.{gives_then, gives_here}
-use Rattle.ltx_reader.proofs.ReaderIndexLemmas.{index_step, index_stops, entry_inside, four_here, four_at, index_short, index_differs, index_whole, index_summed}
+use Rattle.ltx_reader.proofs.ReaderIndexLemmas.{index_step, index_stops, entry_inside, four_here, four_at, index_short}
+use Rattle.ltx_reader.proofs.ReaderIndexLemmas.{index_differs, index_whole, index_summed}
 use Rattle.ltx_reader.proofs.ReaderTestLemmas.{passes_on}
 use Rattle.ltx_reader.proofs.reader.LtxReader.check_index.Goals as goal
 

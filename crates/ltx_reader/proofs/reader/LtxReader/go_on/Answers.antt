@@ -1,7 +1,8 @@
 use Rattle.std.proofs.Common.{◌∙◌, sym, ap, subst, Some}
 use Rattle.ltx_reader.specs.Reader.{Reader, bytes_named, IsReaderOf, Announces}
 use Rattle.ltx_reader.specs.ReaderSteps.{IsNext}
-use Rattle.ltx_reader.proofs.ReaderProgressLemmas.{faultless, stopped_reads, ended_reads, ended_announces, waits_reads, waits_announces}
+use Rattle.ltx_reader.proofs.ReaderProgressLemmas.{faultless, stopped_reads, ended_reads, ended_announces, waits_reads}
+use Rattle.ltx_reader.proofs.ReaderProgressLemmas.{waits_announces}
 use Rattle.ltx_reader.proofs.reader.LtxReader.go_on.Goals as goal
 
 pub returns-in-Err-clause-keeps : goal.returns-in-Err-clause-keeps

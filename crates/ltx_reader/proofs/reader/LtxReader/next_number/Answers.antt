@@ -4,7 +4,8 @@ use Rattle.ltx_format.specs.FirstFault.{end_fault}
 use Rattle.ltx_reader.specs.Reader.{Reader, bytes_named, AreBytes, next_block, block_offset}
 use Rattle.ltx_reader.proofs.ReaderGivenLemmas.{gives_then, gives_here, gives_within}
 use Rattle.ltx_reader.proofs.ReaderTestLemmas.{passes_on}
-use Rattle.ltx_reader.proofs.ReaderNextLemmas.{front_here, front_number, front_inside, summed_front, next_end, next_wrong, next_right}
+use Rattle.ltx_reader.proofs.ReaderNextLemmas.{front_here, front_number, front_inside, summed_front, next_end}
+use Rattle.ltx_reader.proofs.ReaderNextLemmas.{next_wrong, next_right}
 use Rattle.ltx_reader.proofs.reader.LtxReader.next_number.Goals as goal
 
 pub returns-in_err-front-clause-gave : goal.returns-in_err-front-clause-gave

@@ -1,11 +1,14 @@
-use Rattle.std.proofs.Common.{◌≡◌, ◌+◌, ◌-◌, length, Err, ◌++◌, ◌∷◌, ℕ, List, Option, None, Ok, ◌∙◌, sym, ap, subst, arith}
+use Rattle.std.proofs.Common.{◌≡◌, ◌+◌, ◌-◌, length, Err, ◌++◌, ◌∷◌, ℕ, List, Option, None, Ok, ◌∙◌, sym, ap, subst}
+use Rattle.std.proofs.Common.{arith}
 use Rattle.ls_sums.specs.Crc64.{IsBehind}
 use Rattle.ltx_reader.specs.declared.progress.Progress.TheVariants.{Going}
-use Rattle.ltx_reader.specs.Reader.{Reader, bytes_named, IsReaderOf, Waits, RepeatsNumber, Announces, next_block, pages_left}
+use Rattle.ltx_reader.specs.Reader.{Reader, bytes_named, IsReaderOf, Waits, RepeatsNumber, Announces, next_block}
+use Rattle.ltx_reader.specs.Reader.{pages_left}
 use Rattle.ltx_reader.specs.ReaderGiven.{GivesAtMost}
 use Rattle.ltx_reader.specs.ReaderSteps.{Passes, StandAt, reaches}
 use Rattle.ltx_reader.proofs.ReaderGivenLemmas.{gives_then}
-use Rattle.ltx_reader.proofs.ReaderPageLemmas.{page_stopped, number_inside, read_past, left_for_page, as_before, disk_stops, err_same}
+use Rattle.ltx_reader.proofs.ReaderPageLemmas.{page_stopped, number_inside, read_past, left_for_page, as_before}
+use Rattle.ltx_reader.proofs.ReaderPageLemmas.{disk_stops, err_same}
 use Rattle.ltx_reader.proofs.ReaderProgressLemmas.{page_reads, page_given}
 use Rattle.ltx_reader.proofs.reader.LtxReader.next_page.Goals as goal
 

@@ -139,7 +139,8 @@ returns-in-Some-clause-spends g c = λ events told.
     let odd = c.in-Some.odd in
     let is = c.in-Some.is in
     let counted_odd = subst (λ (o : Option Odd). SomeOddIsCounted files o) is costs.odd in
-    let before = subst (λ (o : Option Odd). Takes plan (both (left_of_all files items) (odd_of files o)) s s x y) is first in
+    let before = subst (λ (o : Option Odd). Takes plan (both (left_of_all files items) (odd_of files o)) s s x y) is
+    first in
     takes_then plan (both (left_of_all files items) (odd_of files (Some odd))) nothing s s u x y z before
     (subst (λ (cs : List Cursor). Takes (both (left_of_all files cs) (odd_of files (Some odd))) nothing s u y z) lent
     (c.odd_fault.ensures.spends events (c.in_ok-cursors.ensures.unchanged ∙ told)

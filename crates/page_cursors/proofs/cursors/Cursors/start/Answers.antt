@@ -163,12 +163,14 @@ loop-place-preserved g c =
           let t = c.loop-place.steps in
           let asked = c.in-Ok.ensures.takes events (before.unchanged ∙ told)
           (subst (λ (cs : List Cursor). AreCounted files cs) (sym lent) so_far.0) in
-          let went = subst (λ (cs : List Cursor). Takes (left_of_all files old.cursors.items) (left_of_all files cs) 0 0 y z)
+          let went = subst (λ (cs : List Cursor). Takes (left_of_all files old.cursors.items) (left_of_all files cs) 0
+          0 y z)
           (sym kept) (subst (λ (cs : List Cursor). Takes (left_of_all files cs) (left_of_all files c.ask_at.new.cursors)
           0 0 y z) lent asked.1) in (
             subst (λ (cs : List Cursor). AreCounted files cs) (sym kept) asked.0,
             takes_then (left_of_all files c.args.self.now.cursors.items) (left_of_all files old.cursors.items)
-                (left_of_all files new.cursors.items) s t t x y z so_far.1 (takes_by (left_of_all files old.cursors.items)
+                (left_of_all files new.cursors.items) s t t x y z so_far.1
+                (takes_by (left_of_all files old.cursors.items)
                 (left_of_all files new.cursors.items) (left_of_all files old.cursors.items) (left_of_all files
                 new.cursors.items) 0 0 t t y z went (omega arith) (omega arith)),
           );

@@ -197,10 +197,13 @@ returns-clause-costs g c = λ events told counted.
     let t = c.give_at.new.steps in
     let x = g.S.Disk.given c.args.store.now in
     let y = g.S.Disk.given c.give_at.new.store in
-    let gave = c.in-Ok.ensures.takes events told (subst (λ (cs : List Cursor). AreCounted files cs) (sym lent) counted) in (
+    let gave = c.in-Ok.ensures.takes events told
+    (subst (λ (cs : List Cursor). AreCounted files cs) (sym lent) counted) in (
       subst (λ (cs : List Cursor). AreCounted files cs) (sym kept) gave.0,
-      subst (λ (cs : List Cursor). Takes (left_of_all files old.cursors.items) (left_of_all files cs) s t x y) (sym kept)
-          (subst (λ (cs : List Cursor). Takes (left_of_all files cs) (left_of_all files c.give_at.new.cursors) s t x y) lent
+      subst (λ (cs : List Cursor). Takes (left_of_all files old.cursors.items) (left_of_all files cs) s t x y)
+          (sym kept)
+          (subst (λ (cs : List Cursor). Takes (left_of_all files cs) (left_of_all files c.give_at.new.cursors) s t x
+          y) lent
           gave.1),
     )
 

@@ -52,7 +52,8 @@ loop-preserved g c =
             went.0,
             takes_then (left_of_all files c.args.self.now.cursors.items) (left_of_all files c.loop.self.cursors.items)
                 (left_of_all files c.take.new.self.cursors.items) c.args.steps.now c.loop.steps c.take.new.steps
-                (g.S.Disk.given c.args.store.now) (g.S.Disk.given c.loop.store) (g.S.Disk.given c.take.new.store) so_far.1
+                (g.S.Disk.given c.args.store.now) (g.S.Disk.given c.loop.store) (g.S.Disk.given c.take.new.store)
+                so_far.1
                 went.1,
           );
       unchanged = c.take.ensures.unchanged ∙ c.loop.invariant.unchanged;

@@ -11,7 +11,8 @@ returns-clause-ok g c =
     let old = g.S.Disk.told c.args.store.now in
     let new = g.S.Disk.told c.remove.new.self in
     let draft = c.as_str.ensures ∙ c.self.invariant ∙ ap draft_path c.self.view_is in
-    on_ok_weaker c.remove.result (λ is. absent old new c.args.self (subst (λ (q : List ℕ). new ≡ gains old (Removed q)) draft is)) c.remove.ensures.ok
+    on_ok_weaker c.remove.result (λ is. absent old new c.args.self
+    (subst (λ (q : List ℕ). new ≡ gains old (Removed q)) draft is)) c.remove.ensures.ok
 
 pub returns-clause-kept : goal.returns-clause-kept
 returns-clause-kept g c =
@@ -19,4 +20,5 @@ returns-clause-kept g c =
     let new = g.S.Disk.told c.remove.new.self in
     let draft = c.as_str.ensures ∙ c.self.invariant ∙ ap draft_path c.self.view_is in
     λ begun kept. removed begun old new c.args.self kept
-    (subst (λ (q : List ℕ). GainsOrNot old new (Removed q)) draft (tried c.remove.result old new (Removed c.as_str.result.now) c.remove.ensures.ok c.remove.ensures.err))
+    (subst (λ (q : List ℕ). GainsOrNot old new (Removed q)) draft
+    (tried c.remove.result old new (Removed c.as_str.result.now) c.remove.ensures.ok c.remove.ensures.err))

@@ -13,7 +13,9 @@ returns-in_err-remove-clause-err g c =
     let new = g.S.Disk.told c.remove.new.self in
     let path = file_path c.args.name.now.level c.args.name.now.min c.args.name.now.max in
     let draft = c.as_str.ensures ∙ c.of-draft.ensures in
-    err_leaves c.from_residual.result _ (not_cleared old new path (subst (λ (q : List ℕ). GainsOrNot old new (Removed q)) draft c.in_err-remove.ensures.err))
+    err_leaves c.from_residual.result _
+    (not_cleared old new path (subst (λ (q : List ℕ). GainsOrNot old new (Removed q)) draft
+    c.in_err-remove.ensures.err))
 
 pub returns-in_err-create-clause-err : goal.returns-in_err-create-clause-err
 returns-in_err-create-clause-err g c =

@@ -11,15 +11,20 @@ IsEnd progress = (name : FileName) → MayLead progress.names progress.t progres
 pub returns-in_err-name-clause-end : goal.returns-in_err-name-clause-end
 returns-in_err-name-clause-end c =
     let inside = c.self.inside in
-    none_then c.from_residual.result _ (subst IsEnd c.self.view_is (step_end inside.names.now inside.t inside.after None c.in_err-name.ensures.best tt))
+    none_then c.from_residual.result _
+    (subst IsEnd c.self.view_is (step_end inside.names.now inside.t inside.after None c.in_err-name.ensures.best
+    tt))
 
 pub returns-then-number-self-clause-end : goal.returns-then-number-self-clause-end
 returns-then-number-self-clause-end c =
     let inside = c.self.inside in
-    subst IsEnd c.self.view_is (step_end inside.names.now inside.t inside.after (Some c.in_ok-name.name) c.in_ok-name.ensures.best (omega (arith, c.if-number-self.true, c.number.ensures.value)))
+    subst IsEnd c.self.view_is (step_end inside.names.now inside.t inside.after (Some c.in_ok-name.name)
+    c.in_ok-name.ensures.best (omega (arith, c.if-number-self.true, c.number.ensures.value)))
 
 pub returns-clause-best : goal.returns-clause-best
 returns-clause-best c =
     let inside = c.self.inside in
-    subst (λ (progress : Progress). IsBestNext progress.names progress.t progress.after c.in_ok-name.name) c.self.view_is
-    (step_best inside.names.now inside.t inside.after c.in_ok-name.name c.in_ok-name.ensures.within c.in_ok-name.ensures.best (omega (arith, c.if-number-self.false, c.number.ensures.value)))
+    subst (λ (progress : Progress). IsBestNext progress.names progress.t progress.after c.in_ok-name.name)
+    c.self.view_is
+    (step_best inside.names.now inside.t inside.after c.in_ok-name.name c.in_ok-name.ensures.within
+    c.in_ok-name.ensures.best (omega (arith, c.if-number-self.false, c.number.ensures.value)))

@@ -14,8 +14,10 @@ returns-then-number-after-clause-least c =
       c.if-number-after.true,
       c.number.ensures.value,
       next.begins,
-      (first_is_least c.args.names.now c.args.after c.first_beyond.new.self c.in_ok-name.name name c.requires.in_order c.requires.rising
-          c.in_ok-name.ensures.walk c.in_ok-name.ensures.found there (level ∙ sym c.in_ok-name.ensures.level) next.goes_on).0,
+      (first_is_least c.args.names.now c.args.after c.first_beyond.new.self c.in_ok-name.name name c.requires.in_order
+          c.requires.rising
+          c.in_ok-name.ensures.walk c.in_ok-name.ensures.found there (level ∙ sym c.in_ok-name.ensures.level)
+          next.goes_on).0,
     ))
 
 pub returns-clause-end : goal.returns-clause-end
@@ -29,11 +31,16 @@ returns-clause-end c =
         slice_get_within c.args.names.now c.first_beyond.new.self.at name stands.here,
         get_or_from_slice_get c.args.names.now c.first_beyond.new.self.at name name stands.here,
       );
-      next = record { begins = omega (arith, c.if-number-after.false, c.number.ensures.value); goes_on = stands.beyond };
+      next = record {
+        begins = omega (arith, c.if-number-after.false, c.number.ensures.value);
+        goes_on = stands.beyond;
+      };
       ends = refl;
     }
 
 pub returns-clause-least : goal.returns-clause-least
 returns-clause-least c =
-    λ name there level next. (first_is_least c.args.names.now c.args.after c.first_beyond.new.self c.in_ok-name.name name c.requires.in_order
-    c.requires.rising c.in_ok-name.ensures.walk c.in_ok-name.ensures.found there (level ∙ sym c.in_ok-name.ensures.level) next.goes_on).1
+    λ name there level next. (first_is_least c.args.names.now c.args.after c.first_beyond.new.self c.in_ok-name.name
+    name c.requires.in_order
+    c.requires.rising c.in_ok-name.ensures.walk c.in_ok-name.ensures.found there
+    (level ∙ sym c.in_ok-name.ensures.level) next.goes_on).1
