@@ -1,7 +1,7 @@
 //! Replicas with damaged files.
 
 use crate::carrying::carried_out;
-use crate::files::{LACKING, Made, OUTPUT, PIECE, Replica, WHOLE, bytes_of, disk_of};
+use crate::files::{LACKING, OUTPUT, Replica, WHOLE, bytes_of, disk_of};
 use crash_disk::{Disk, MemDisk, MemOut};
 use litestream_core::Why;
 use ltx_format::LtxFault;
@@ -85,73 +85,5 @@ fn a_missing_page_is_told(rt: HostRuntime) -> Result<(), Fail> {
     assert_eq!(rt; outcome.why, why);
     assert_eq!(rt; outcome.status, 1);
     assert_eq!(rt; target.size(OUTPUT)?, None);
-    Ok(())
-}
-
-/// A byte of the file of transaction 1 and one of the piece behind it, with what stands there, and the damage that is
-/// told.
-struct Both {
-    first: (usize, u8),
-    second: (usize, u8),
-    path: &'static str,
-    damage: Damage,
-}
-
-/// The piece is damaged in its header, or where its first page begins, so that this is found before the first file was
-/// read to its end. The last row leaves that as it is.
-const BOTH: [Both; 3] = [
-    Both {
-        first: (1157, 0x90),
-        second: (7, 1),
-        path: "ltx/9/0000000000000001-0000000000000001.ltx",
-        damage: Damage::File(LtxFault::BadSum {
-            kept: 0xf856_1898_5aa5_0590,
-            found: 0xf856_1898_5aa5_0591,
-        }),
-    },
-    Both {
-        first: (621, 3),
-        second: (105, 1),
-        path: "ltx/9/0000000000000001-0000000000000001.ltx",
-        damage: Damage::File(LtxFault::BadOrder(3)),
-    },
-    Both {
-        first: (1157, 0x91),
-        second: (105, 1),
-        path: "ltx/0/0000000000000002-0000000000000002.ltx",
-        damage: Damage::File(LtxFault::Compressed),
-    },
-];
-
-/// Puts the file with this byte.
-fn put_with(
-    alloc: Global,
-    store: &mut MemDisk,
-    made: &Made,
-    change: (usize, u8),
-) -> Result<(), Fail> {
-    let mut bytes = bytes_of(alloc, made)?;
-    let (at, byte) = change;
-    if let Some(changed) = bytes.get_mut(at) {
-        *changed = byte;
-    }
-    store.put_file(made.path, &bytes)?;
-    Ok(())
-}
-
-#[test]
-fn the_first_damaged_file_is_told(rt: HostRuntime) -> Result<(), Fail> {
-    for (number, row) in BOTH.iter().enumerate() {
-        let mut store = MemDisk::new(rt.alloc());
-        put_with(rt.alloc(), &mut store, &WHOLE, row.first)?;
-        put_with(rt.alloc(), &mut store, &PIECE, row.second)?;
-        let mut target = MemDisk::new(rt.alloc());
-        let mut out = MemOut::new(rt.alloc());
-        let line = "restore -o D/o R";
-        let outcome = carried_out(rt.alloc(), line, &mut store, &mut target, &mut out)?;
-        let why = Why::Damaged(name_of(row.path)?, row.damage);
-        assert_eq!(rt; outcome.why, why, "row {number}");
-        assert_eq!(rt; target.size(OUTPUT)?, None, "row {number}");
-    }
     Ok(())
 }

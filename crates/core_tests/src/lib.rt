@@ -19,8 +19,6 @@ mod faults;
 #[cfg(test)]
 mod files;
 #[cfg(test)]
-mod replicating;
-#[cfg(test)]
 mod rows;
 #[cfg(test)]
 mod stops;
