@@ -1,15 +1,18 @@
 -- A file that is written page by page.
-use Rattle.std.proofs.Common.{◌≡◌, ℕ, List, [], ◌++◌, append_assoc, append-nil, refl, sym, ap, subst, ◌∙◌, inl}
+use Rattle.std.proofs.Common.{◌≡◌, ℕ, List, [], ◌++◌, take, append_assoc, append-nil, refl, sym, ap, subst, ◌∙◌}
+use Rattle.std.proofs.Common.{inl}
+use Rattle.std.proofs.Math.Seq.{take-append_seam}
 use Rattle.std.specs.List.{flat_map}
 use Rattle.std.specs.FinMap.{empty, insert}
 use Rattle.crash_disk.specs.GoesOn.{GoesOn}
 use Rattle.crash_disk.specs.Told.{Told}
 use Rattle.crash_disk.proofs.GoesOnLemmas.{goes_on-weaker}
 use Rattle.ltx_format.specs.declared.header.LtxHeader.{LtxHeader}
-use Rattle.ltx_format.specs.LtxFormat.{header_bytes, page_block, page_blocks}
+use Rattle.ltx_format.specs.LtxFormat.{IsHeader, HasHeader, header_bytes, page_block, page_blocks}
 use Rattle.ltx_format.specs.Writing.{PageMap, Written, HasWritten, IsLastBlock, EndsFile}
 use Rattle.ltx_format.specs.Writing as writing
 use Rattle.ltx_format.proofs.BlockLoop.{entries-empty}
+use Rattle.ltx_format.proofs.HeaderLaws.{header-length}
 use Rattle.replica_store.specs.Putting.{KeepsOthers, IsPutting, AfterPutting, StillKeepsOthers, HasPut, MayPut}
 use Rattle.replica_sync.specs.declared.page_file.PageFile.{PageFile}
 use Rattle.replica_sync.specs.Gathering.{HasGathered, IsGathering, GathersMore, KeepsAllOthers}
@@ -76,13 +79,26 @@ page_given before after number page front old new path header block gains gather
 
 -- ---- the end
 
+-- what is put behind a header begins with it
+begins_with : (h : LtxHeader) (blocks end : List ℕ) → IsHeader h → HasHeader (header_bytes h ++ blocks ++ end) h
+begins_with h blocks end is = record {
+  header = is;
+  spelled =
+      ap (take 100) (append_assoc (header_bytes h) blocks end)
+      ∙ ap (λ (n : ℕ). take n (header_bytes h ++ (blocks ++ end))) (sym (header-length h))
+      ∙ take-append_seam (header_bytes h) (blocks ++ end);
+}
+
 module _ (file : PageFile) (end : List ℕ) (old mid new : Told)
     (ends : EndsFile (HasWritten file.writer) file.writer.header end) where
   abbrev bytes_of : PageMap → List ℕ
   bytes_of pages = header_bytes file.writer.header ++ page_blocks pages ++ end
 
   ends_as : (pages : PageMap) → HasWritten file.writer pages → EndsAs file pages (bytes_of pages)
-  ends_as pages has = record { is = λ whole. ends pages has whole }
+  ends_as pages has = record {
+    head = begins_with file.writer.header (page_blocks pages) end has.header;
+    is = λ whole. ends pages has whole;
+  }
 
   module _ (last : GathersMore file.put file.gathered end [] old mid) where
     all_in : (begun : Told) (pages : PageMap) → HasPages file begun old pages

@@ -6,8 +6,7 @@ use Rattle.crash_disk.specs.declared.fault.DiskFault.{DiskFault}
 use Rattle.ls_base.specs.declared.place.Place.{Place}
 use Rattle.ls_base.specs.Fault.{HasCause}
 use Rattle.ls_base.specs.PageSize.{lock_page}
-use Rattle.live_gate.specs.LiveRecord.{LiveRecord, Told, GoesOn, IfTold}
-use Rattle.live_gate.specs.Step.{IsWriterStep}
+use Rattle.live_gate.specs.LiveRecord.{Asked, LiveRecord, Told, GoesOn, IfTold}
 use Rattle.live_gate.proofs.StepLemmas.{step_itself, step_join}
 use Rattle.ltx_format.specs.declared.header.LtxHeader.{LtxHeader}
 use Rattle.ltx_format.specs.LtxFormat.{IsStored}
@@ -20,11 +19,11 @@ use Rattle.wal_follow.specs.declared.fault.FollowFault.TheVariants.{GateBroken, 
 use Rattle.wal_follow.specs.declared.following.Following.{Following}
 use Rattle.wal_follow.specs.Following.{Fits, is_in_log}
 use Rattle.wal_follow.specs.Calls.{GivesWanted, Confirms, IsPageAnswer, IsConfirmAnswer, IsAnswerToSalts}
-use Rattle.wal_follow.specs.Calls.{FollowHasCause, target_of}
+use Rattle.wal_follow.specs.Calls.{FollowHasCause, target_of, KeepsPasses}
 use Rattle.replica_sync.specs.declared.answer.SyncFault.{SyncFault}
 use Rattle.replica_sync.specs.declared.answer.SyncFault.TheVariants.{Follow, TxidSpent, Store, Memory as want}
 use Rattle.replica_sync.specs.Answers.{HasCauses}
-use Rattle.replica_sync.specs.Reading.{ReadsFound, ReadsPage, IsReadFault, IsStoreFault, IsBrokenBy}
+use Rattle.replica_sync.specs.Reading.{MovesOn, ReadsFound, ReadsPage, IsReadFault, IsStoreFault, IsBrokenBy}
 
 abbrev Done : Type 0
 Done = Result (Unit {0}) SyncFault
@@ -71,6 +70,7 @@ module _ (f : Following) (found : Found) (number : ℕ) (into : List ℕ) (old n
       broken = λ broken is. page_broken fault answer gives broken (same_fault fault (GateBroken broken) is);
       whole = λ broken is legal calm.
           page_whole fault answer gives broken (same_fault fault (GateBroken broken) is) calm;
+      passes = gives.passes;
     };
     awake = λ ok. absurd cc;
     value = λ ok. absurd cc;
@@ -90,6 +90,7 @@ module _ (f : Following) (found : Found) (number : ℕ) (into : List ℕ) (old n
           fits = gives.fits;
           broken = λ broken is. absurd (other (GateBroken broken) is);
           whole = λ broken is legal calm. other (GateBroken broken) is;
+          passes = gives.passes;
         };
         awake = λ ok. awake;
         value = λ ok calm. gives.value calm awake;
@@ -165,15 +166,32 @@ none_failed live_old live_new old new live store = record {
 
 -- ---- one step and then more
 
+pub passes_join : (old mid new : Asked) → KeepsPasses old mid → KeepsPasses mid new → KeepsPasses old new
+passes_join old mid new first second = (second.0 ∙ first.0, second.1 ∙ first.1)
+
+pub moves_itself : (told : Told) → GoesOn told told MovesOn
+moves_itself told = record {
+  told = λ r is. (r, is, record { step = step_itself r.database; passes = (refl, refl) });
+  silent = λ none. none;
+}
+
+pub moves_more : (f : Following) (found : Found) (number : ℕ) (page : List ℕ) (old mid new : LiveRecord)
+    → MovesOn old mid → ReadsPage f found number (Ok tt) page mid new → MovesOn old new
+moves_more f found number page old mid new moves reads = record {
+  step = step_join old.database mid.database new.database moves.step reads.reads.step;
+  passes = passes_join old.asked mid.asked new.asked moves.passes reads.reads.passes;
+}
+
 pub moves_then : (f : Following) (place : Place) (result : Done) (old mid new : LiveRecord)
-    → IsWriterStep old.database mid.database → (IsOk result → new.database.stopped ≡ false)
+    → MovesOn old mid → (IsOk result → new.database.stopped ≡ false)
     → ReadsFound f place result mid new → ReadsFound f place result old new
-moves_then f place result old mid new step awake reads = record {
-  step = step_join old.database mid.database new.database step reads.step;
+moves_then f place result old mid new moves awake reads = record {
+  step = step_join old.database mid.database new.database moves.step reads.step;
   awake = λ ok was. awake ok;
   fits = reads.fits;
   broken = reads.broken;
-  whole = λ broken is legal. reads.whole broken is (step.legal legal);
+  whole = λ broken is legal. reads.whole broken is (moves.step.legal legal);
+  passes = passes_join old.asked mid.asked new.asked moves.passes reads.passes;
 }
 
 pub reads_join : (f : Following) (place : Place) (result : Done) (old mid new : LiveRecord)
@@ -184,17 +202,19 @@ reads_join f place result old mid new first second = record {
   fits = second.fits;
   broken = second.broken;
   whole = λ broken is legal. second.whole broken is (first.step.legal legal);
+  passes = passes_join old.asked mid.asked new.asked first.passes second.passes;
 }
 
 -- nothing failed
-pub all_read : (f : Following) (place : Place) (old new : LiveRecord) → IsWriterStep old.database new.database
+pub all_read : (f : Following) (place : Place) (old new : LiveRecord) → MovesOn old new
     → new.database.stopped ≡ false → Fits f new.database → ReadsFound f place (Ok tt) old new
-all_read f place old new step awake fits = record {
-  step = step;
+all_read f place old new moves awake fits = record {
+  step = moves.step;
   awake = λ ok was. awake;
   fits = λ still. fits;
   broken = λ broken is. absurd (not_ok (GateBroken broken) is);
   whole = λ broken is legal calm. not_ok (GateBroken broken) is;
+  passes = moves.passes;
 }
 
 -- the log was asked whether it is still the same
@@ -207,6 +227,7 @@ module _ (f : Following) (found : Found) (old new : LiveRecord) where
     fits = confirms.fits;
     broken = λ broken is. absurd (not_ok (GateBroken broken) is);
     whole = λ broken is legal calm. not_ok (GateBroken broken) is;
+    passes = confirms.passes;
   }
 
   confirm_broken : (fault : FollowFault) → IsConfirmAnswer (Err fault)
@@ -226,6 +247,7 @@ module _ (f : Following) (found : Found) (old new : LiveRecord) where
     broken = λ broken is. confirm_broken fault answer confirms broken (same_fault fault (GateBroken broken) is);
     whole = λ broken is legal calm.
         confirms.whole legal calm broken (ap (λ (x : FollowFault). Err x) (same_fault fault (GateBroken broken) is));
+    passes = confirms.passes;
   }
 
 -- nothing was asked
@@ -237,6 +259,7 @@ nothing_read f place r fits = record {
   fits = λ awake. fits;
   broken = λ broken is. absurd (not_ok (GateBroken broken) is);
   whole = λ broken is legal calm. not_ok (GateBroken broken) is;
+  passes = (refl, refl);
 }
 
 -- ---- what is told now
@@ -274,6 +297,7 @@ read_but f place result old new other reads = record {
   fits = reads.fits;
   broken = λ broken is. absurd (other (GateBroken broken) is);
   whole = λ broken is legal calm. other (GateBroken broken) is;
+  passes = reads.passes;
 }
 
 -- more faults of the store change no cause

@@ -8,7 +8,7 @@ use Rattle.crash_disk.proofs.GoesOnLemmas.{goes_on-weaker, goes_on-same}
 use Rattle.ls_base.specs.PageSize.{lock_page}
 use Rattle.live_gate.specs.LiveRecord as live
 use Rattle.ltx_format.specs.declared.header.LtxHeader.{LtxHeader}
-use Rattle.ltx_format.specs.LtxFormat.{IsLtxFile}
+use Rattle.ltx_format.specs.LtxFormat.{HasHeader, IsLtxFile}
 use Rattle.ltx_format.specs.Writing.{PageMap, IsWhole, change_with}
 use Rattle.replica_store.specs.declared.file_name.FileName.{FileName}
 use Rattle.replica_store.specs.Listing.{path_of}
@@ -45,6 +45,7 @@ module _ (before after : PageFile) (found : Found) (storable : IsStorable found)
   has_bytes begun has bytes ends = record {
     bytes = bytes;
     pages = (puts begun has).pages;
+    head = subst (λ (h : LtxHeader). HasHeader bytes h) header ends.head;
     ends = subst (λ (h : LtxHeader). IsWhole h (puts begun has).pages
         → IsLtxFile bytes h (change_with h (puts begun has).pages)) header ends.is;
     numbers = all_numbers found storable (puts begun has).pages (puts begun has).numbers;
@@ -90,6 +91,9 @@ module _ (file : PageFile) (found : Found) (name : FileName) (h : LtxHeader) (mo
     bytes = has.bytes;
     header = h;
     change = change_with h has.pages;
+    head = subst (λ (k : LtxHeader). HasHeader has.bytes k) header has.head;
+    min = min;
+    max = max;
     file = λ all. record {
       file = subst (λ (k : LtxHeader). IsWhole k has.pages → IsLtxFile has.bytes k (change_with k has.pages)) header
           has.ends

@@ -39,6 +39,7 @@ use Rattle.replica_sync.specs.LiveSide.{HasFollowed, Shows, MayAdvanceTo, Syncs,
 use Rattle.replica_sync.specs.Newest.{newest_of}
 use Rattle.replica_sync.specs.Reading.{ReadsFound, IsStoreFault}
 use Rattle.replica_sync.specs.Storing.{IsNextName, synced_of}
+use Rattle.replica_sync.proofs.ReadingLemmas.{passes_join}
 
 same_err : {T : Type 0} (a b : SyncFault) → ◌≡◌ {A = Result T SyncFault} (Err a) (Err b) → a ≡ b
 same_err a b e = cc
@@ -148,6 +149,7 @@ unstored {T} f place result e r was other fits =
       hold = λ ok before. absurd (err_is_ok T e ok);
       broken = λ broken is. absurd (other (GateBroken broken) (same_err {T = T} e (Follow (GateBroken broken)) is));
       whole = λ broken is legal calm. other (GateBroken broken) (same_err {T = T} e (Follow (GateBroken broken)) is);
+      passes = (refl, refl);
     })
 
 pub not_stored : {T : Type 0} (f : Following) (place : Place) (result : Result T SyncFault) (e : SyncFault)
@@ -163,6 +165,7 @@ not_stored {T} f place result e old new was reads =
           (ap (λ (x : SyncFault). Err x) (same_err {T = T} e (Follow (GateBroken broken)) is));
       whole = λ broken is legal calm. reads.whole broken
           (ap (λ (x : SyncFault). Err x) (same_err {T = T} e (Follow (GateBroken broken)) is)) legal calm;
+      passes = reads.passes;
     })
 
 pub was_stored : (f after : Following) (found : Found) (name : FileName) (old new : LiveRecord)
@@ -176,6 +179,7 @@ was_stored f after found name old new is_found stored reads = record {
   hold = λ ok before. may_advance f (target_of found) new.database (reads.fits (reads.awake refl before)) is_found;
   broken = λ broken is. absurd cc;
   whole = λ broken is legal calm. absurd cc;
+  passes = reads.passes;
 }
 
 pub next_answer : {T : Type 0} (dated : List Dated) (result : Result T SyncFault) (e : SyncFault) → result ≡ Err e
@@ -236,6 +240,7 @@ syncs_err f after fault old new never follows = record {
   fits = follows.fits;
   hold = λ legal ok. absurd (err_is_ok Synced (Follow fault) ok);
   shows = by fault never follows;
+  passes = follows.passes;
 }
   where
     by : (fault : FollowFault) → NeverBroken (Err fault) → Follows f after (Err fault) old new
@@ -268,6 +273,7 @@ module _ (f kept after : Following) (answer : Next) (found : Found) (old mid new
     fits = λ legal awake. second.fits (first.step.legal legal) awake;
     hold = λ legal ok. absurd (err_is_ok Synced e ok);
     shows = by e refused second;
+    passes = passes_join old.asked mid.asked new.asked first.passes second.passes;
   }
     where
       by : (e : SyncFault) → IsNextAnswer {T = FileName} dated (Err e)
@@ -298,6 +304,7 @@ module _ (f kept after : Following) (answer : Next) (found : Found) (old mid new
     hold = λ legal ok passed. subst (λ (p : Option Place). MayAdvanceTo p new.database) (sym place)
         (second.hold refl (first.awake refl));
     shows = by found.wanted refl;
+    passes = passes_join old.asked mid.asked new.asked first.passes second.passes;
   }
     where
       by : (w : Wanted) → found.wanted ≡ w → Shows f after (Ok (synced_of w name)) old new
@@ -375,4 +382,5 @@ module _ (f after : Following) (old new : LiveRecord) (follows : Follows f after
     hold = λ also ok still. subst (λ (p : Option Place). MayAdvanceTo p new.database) (sym place)
         (at_place f.place refl (sym passed ∙ still));
     shows = follows;
+    passes = follows.passes;
   }

@@ -31,6 +31,7 @@ is_stored_file : (dated : List Dated) (found : Found) (name : FileName) (moment 
 is_stored_file dated found name moment live_old live_new is stored = record {
   header = stored.header;
   change = stored.change;
+  under = (stored.head, stored.min, stored.max);
   file = λ which. stored.file (by found.wanted refl is which);
   dated = stored.dated;
 }

@@ -16,7 +16,7 @@ use Rattle.wal_follow.specs.declared.fault.FollowFault.TheVariants.{Header, Size
 use Rattle.wal_follow.specs.declared.fault.FollowFault.TheVariants.{GateBroken, Live, Memory}
 use Rattle.wal_follow.specs.declared.following.Following.{Following}
 use Rattle.wal_follow.specs.Following.{Fits}
-use Rattle.wal_follow.specs.Calls.{Follows}
+use Rattle.wal_follow.specs.Calls.{Follows, KeepsPasses}
 use Rattle.replica_sync.specs.Reading.{IsBrokenBy}
 use Rattle.round_line.specs.declared.round.Synced.{Synced}
 use Rattle.round_line.specs.declared.round.Synced.TheVariants.{Same, Piece, Whole}
@@ -97,6 +97,7 @@ pub record Syncs (f after : Following) (result : Result Synced SyncFault) (old n
   pub fits : IsLegal old.database → new.database.stopped ≡ false → Fits after new.database
   pub hold : IsLegal old.database → IsOk result → after.passed ≡ false → MayAdvanceTo after.place new.database
   pub shows : Shows f after result old new
+  pub passes : KeepsPasses old.asked new.asked
 
 -- What storing what was found does to it.
 pub record StoresLive
@@ -109,3 +110,4 @@ pub record StoresLive
     pub broken : (broken : Broken) → IsErrOf result (fault.Follow (GateBroken broken)) → IsBrokenBy place broken new
     pub whole : (broken : Broken) → IsErrOf result (fault.Follow (GateBroken broken))
         → IsLegal old.database → new.database.chances ≡ 0 → ⊥
+    pub passes : KeepsPasses old.asked new.asked

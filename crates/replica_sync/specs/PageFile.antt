@@ -4,7 +4,7 @@ use Rattle.std.specs.FinMap.{get, empty, insert}
 use Rattle.crash_disk.specs.GoesOn.{GoesOn}
 use Rattle.crash_disk.specs.Told.{Told}
 use Rattle.live_gate.specs.LiveRecord as live
-use Rattle.ltx_format.specs.LtxFormat.{header_bytes, page_blocks, IsLtxFile}
+use Rattle.ltx_format.specs.LtxFormat.{header_bytes, page_blocks, HasHeader, IsLtxFile}
 use Rattle.ltx_format.specs.Writing.{PageMap, HasWritten, IsWhole, change_with}
 use Rattle.replica_store.specs.Putting.{KeepsOthers, MayPut, HasPut}
 use Rattle.replica_sync.specs.declared.page_file.PageFile.{PageFile}
@@ -40,8 +40,9 @@ abbrev pub KeepsBegun : PageFile → Told → Told → Type 0
 KeepsBegun file old new =
     (begun : Told) → HasPages file begun old empty → GoesOn begun new (KeepsOthers file.put)
 
--- Whatever pages were given, where they are enough the bytes are the file of the header and them, ..
+-- Whatever pages were given, the bytes begin with the header and, where these are enough, are the file of it and them, ..
 pub record EndsAs (file : PageFile) (pages : PageMap) (bytes : List ℕ) : Type 0 where
+  pub head : HasHeader bytes file.writer.header
   pub is : IsWhole file.writer.header pages → IsLtxFile bytes file.writer.header (change_with file.writer.header pages)
 
 -- .. and the file was put with them ..

@@ -15,7 +15,7 @@ use Rattle.wal_follow.specs.declared.fault.FollowFault.TheVariants.{Header, Size
 use Rattle.wal_follow.specs.declared.fault.FollowFault.TheVariants.{GateBroken, Live, Memory}
 use Rattle.wal_follow.specs.declared.following.Following.{Following}
 use Rattle.wal_follow.specs.Following.{Fits}
-use Rattle.wal_follow.specs.Calls.{IsTargetView, target_of, IsAnswerToSalts}
+use Rattle.wal_follow.specs.Calls.{IsTargetView, target_of, IsAnswerToSalts, KeepsPasses}
 use Rattle.replica_sync.specs.declared.answer.SyncFault.{SyncFault}
 use Rattle.replica_sync.specs.declared.answer.SyncFault.TheVariants as fault
 use Rattle.replica_sync.specs.declared.page_file.PageFile.{PageFile}
@@ -27,6 +27,11 @@ IsBrokenBy place (Short at) new = (new.asked.gave_none ≡ true) × (at ≡ read
 IsBrokenBy place (Salts was now) new =
     IsAnswerToSalts place (Err (GateBroken (Salts was now))) new.asked.answered
 
+-- The writer moved on, and no pass was asked for.
+pub record MovesOn (old new : LiveRecord) : Type 0 where
+  pub step : IsWriterStep old.database new.database
+  pub passes : KeepsPasses old.asked new.asked
+
 -- What was found is still there, while the machine doesn't stop; where no coincidence is counted the log is whole.
 pub record ReadsFound
     (f : Following) (place : Place) (result : Result (Unit {0}) SyncFault) (old new : LiveRecord) : Type 0 where
@@ -36,6 +41,7 @@ pub record ReadsFound
   pub broken : (broken : Broken) → IsErrOf result (fault.Follow (GateBroken broken)) → IsBrokenBy place broken new
   pub whole : (broken : Broken) → IsErrOf result (fault.Follow (GateBroken broken))
       → IsLegal old.database → new.database.chances ≡ 0 → ⊥
+  pub passes : KeepsPasses old.asked new.asked
 
 -- and the bytes are those of the page in the found state
 pub record ReadsPage

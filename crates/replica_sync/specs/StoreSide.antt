@@ -3,6 +3,7 @@ use Rattle.std.specs.Prelude.{◌≡◌, ℕ, ◌+◌, ◌<◌, List, Result, Ok
 use Rattle.crash_disk.specs.declared.event.Event.{Event}
 use Rattle.ls_base.specs.Change.{Change}
 use Rattle.ltx_format.specs.declared.header.LtxHeader.{LtxHeader}
+use Rattle.ltx_format.specs.LtxFormat.{HasHeader}
 use Rattle.replica_store.specs.declared.dated_names.Dated.{Dated}
 use Rattle.replica_store.specs.declared.file_name.FileName.{FileName}
 use Rattle.replica_store.specs.FileOf.{IsFileOf}
@@ -13,10 +14,12 @@ use Rattle.round_line.specs.declared.round.Synced.TheVariants.{Same, Piece, Whol
 use Rattle.replica_sync.specs.declared.answer.SyncFault.{SyncFault}
 use Rattle.replica_sync.specs.Newest.{newest_of}
 
--- The bytes are a file of the name's transactions with this moment. Only a whole state begins with the first one.
+-- The bytes are a file of the name's transactions with this moment, and begin with its header. Only a whole state begins
+-- with the first one.
 pub record IsStoredFile (name : FileName) (moment : ℕ) (bytes : List ℕ) : Type 0 where
   pub header : LtxHeader
   pub change : Change
+  pub under : HasHeader bytes header × (header.min ≡ name.min) × (header.max ≡ name.max)
   pub file : (name.level ≡ 9) ⊎ (1 < name.min) → IsFileOf bytes name.min name.max header change
   pub dated : header.moment ≡ moment
 

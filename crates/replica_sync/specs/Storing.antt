@@ -6,7 +6,7 @@ use Rattle.crash_disk.specs.Told.{Told}
 use Rattle.ls_base.specs.Change.{Change}
 use Rattle.live_gate.specs.LiveRecord as live
 use Rattle.ltx_format.specs.declared.header.LtxHeader.{LtxHeader}
-use Rattle.ltx_format.specs.LtxFormat.{IsLtxFile}
+use Rattle.ltx_format.specs.LtxFormat.{HasHeader, IsLtxFile}
 use Rattle.ltx_format.specs.Writing.{PageMap, IsWhole, change_with}
 use Rattle.replica_store.specs.declared.dated_names.Dated.{Dated}
 use Rattle.replica_store.specs.declared.file_name.FileName.{FileName}
@@ -36,10 +36,11 @@ synced_of (Listed numbers) name = Piece name
 
 -- ---- a file that is being written
 
--- The bytes are the file of the header and all the pages of what was found.
+-- The bytes begin with the header, and are the file of it and all the pages of what was found.
 pub record HasBytes (file : PageFile) (found : Found) (live_old live_new : live.Told) : Type 0 where
   pub bytes : List ℕ
   pub pages : PageMap
+  pub head : HasHeader bytes file.writer.header
   pub ends : IsWhole file.writer.header pages → IsLtxFile bytes file.writer.header (change_with file.writer.header
       pages)
   pub numbers : (p : ℕ) → IsSome (get pages p) ↔ IsWanted found p
@@ -66,6 +67,9 @@ pub record IsFileOfFound (found : Found) (name : FileName) (moment : ℕ) (live_
   pub bytes : List ℕ
   pub header : LtxHeader
   pub change : Change
+  pub head : HasHeader bytes header
+  pub min : header.min ≡ name.min
+  pub max : header.max ≡ name.max
   pub file : (name.min ≡ 1 → found.wanted ≡ All) → IsFileOf bytes name.min name.max header change
   pub size : header.size ≡ found.size
   pub commit : header.commit ≡ found.commit

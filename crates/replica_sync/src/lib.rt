@@ -26,5 +26,6 @@ mod syncing;
 mod wanted;
 
 pub use answer::SyncFault;
+pub use newest::next_moment;
 pub use round_line::Synced;
 pub use syncing::sync;

@@ -16,8 +16,9 @@ pub(crate) fn newest_of(dated: &[Dated]) -> u64
     newest
 }
 
-/// The moment of what is stored now: `now`, or that of the newest file where it is greater.
-pub(crate) fn next_moment(dated: &[Dated], now: u64) -> u64
+/// The moment of what is stored now: `now`, or that of the newest file where it is greater. `dated` are the replica's
+/// files in list order, and of those that end with the newest transaction the first tells the moment. Takes no memory.
+pub fn next_moment(dated: &[Dated], now: u64) -> u64
     ensures { result ≡ spec.next_moment dated.now now }
 {
     let newest = newest_of(dated);

@@ -7,7 +7,7 @@ ghost use Rattle.live_gate.specs.LiveCalls.{Keeps};
 ghost use Rattle.ltx_format.specs.LtxFormat.{IsHeader};
 ghost use Rattle.replica_store.specs.Listing.{IsValid};
 ghost use Rattle.wal_follow.specs.Following.{Fits};
-ghost use Rattle.wal_follow.specs.Calls.{target_of};
+ghost use Rattle.wal_follow.specs.Calls.{target_of, KnowsPlace};
 ghost use Rattle.replica_sync.specs.Answers.{HasCauses, IsNextAnswer};
 ghost use Rattle.replica_sync.specs.LiveSide.{StoresLive};
 ghost use Rattle.replica_sync.specs.Newest.{next_moment};
@@ -146,6 +146,7 @@ pub(crate) fn store_next<L: Live, S: Disk>(
     requires awake { IfTold (L.told live.old) (λ r. r.database.stopped ≡ false) }
     ensures place { OnOk result (follower.new.place ≡ Some found.now.place) }
     ensures none { OnOk result (follower.new.found ≡ None) }
+    ensures known { OnOk result (KnowsPlace follower.new) }
     ensures live { GoesOn (L.told live.old) (L.told live.new)
         (StoresLive follower.old follower.new found.now.place result) }
     ensures ok { IfOk result (λ name. StoresNext dated.now found.now name (next_moment dated.now now)

@@ -7,6 +7,7 @@ ghost use Rattle.live_gate.specs.LiveRecord.{IfTold, GoesOn};
 ghost use Rattle.live_gate.specs.LiveCalls.{Keeps};
 ghost use Rattle.live_gate.specs.Legal.{IsLegal};
 ghost use Rattle.wal_follow.specs.Following.{Fits};
+ghost use Rattle.wal_follow.specs.Calls.{KnowsPlace};
 ghost use Rattle.replica_sync.specs.Newest.{next_moment};
 ghost use Rattle.replica_sync.specs.Answers.{IsNamed, HasCauses};
 ghost use Rattle.replica_sync.specs.Faith.{IfBothTell, SyncKeepsFaith};
@@ -46,6 +47,7 @@ pub fn sync<L: Live, S: Disk>(
     requires fits { IfTold (L.told live.old) (λ r. Fits follower.old r.database) }
     ensures named { IsNamed dated.now result }
     ensures none { OnOk result (follower.new.found ≡ None) }
+    ensures known { OnOk result (KnowsPlace follower.new) }
     ensures live { GoesOn (L.told live.old) (L.told live.new) (Syncs follower.old follower.new result) }
     ensures store { disk.GoesOn (S.told store.old) (S.told store.new) (Stores dated.now (next_moment dated.now now)
         result) }

@@ -14,13 +14,14 @@ use Rattle.wal_frames.specs.Marks.{IsMark, place_of}
 use Rattle.wal_frames.proofs.AcceptedLemmas.{accepts, read_header-take}
 use Rattle.wal_frames.proofs.MarkLemmas.{mark_stands}
 use Rattle.live_gate.specs.declared.fault.LiveFault.{LiveFault}
-use Rattle.live_gate.specs.LiveRecord.{Database, LiveRecord}
+use Rattle.live_gate.specs.LiveRecord.{Database, Asked, LiveRecord}
 use Rattle.live_gate.specs.LiveCalls.{AgreeInFront, Aims, read_offset}
 use Rattle.live_gate.specs.Step.{IsWriterStep}
 use Rattle.live_gate.proofs.StepLemmas.{step_join}
+use Rattle.snapshot_read.specs.Reading.{AsksOfTheLog}
 use Rattle.wal_follow.specs.declared.following.Following.{Following}
 use Rattle.wal_follow.specs.declared.following.Target.{Target}
-use Rattle.wal_follow.specs.Calls.{salts_of, salts_in, salts_answer, IsAnswerToSalts, Confirms}
+use Rattle.wal_follow.specs.Calls.{salts_of, salts_in, salts_answer, IsAnswerToSalts, KeepsPasses, Confirms}
 use Rattle.wal_follow.specs.declared.fault.Broken.{Broken}
 use Rattle.wal_follow.specs.declared.fault.Broken.TheVariants.{Salts, Short}
 use Rattle.wal_follow.specs.declared.fault.FollowFault.{FollowFault}
@@ -90,8 +91,20 @@ no_answer : (p : Place) (fault : LiveFault) (bytes : List ℕ) → IsAnswerToSal
 no_answer (Wal a b c d e) fault bytes = tt
 no_answer (Rest sum) fault bytes = tt
 
+-- asking the same of the live database asks for no pass
+pub same_passes : (old new : Asked) → new ≡ old → KeepsPasses old new
+same_passes old new same = (ap (λ (a : Asked). a.passes_asked) same, ap (λ (a : Asked). a.passes_done) same)
+
+-- nor does reading from the log's start
+pub read_passes : (old mid new : LiveRecord) → Aims 0 (Ok tt) old mid → AsksOfTheLog mid.asked new.asked
+    → KeepsPasses old.asked new.asked
+read_passes old mid new aims asked = (
+  asked.passes_asked ∙ ap (λ (a : Asked). a.passes_asked) aims.ok,
+  asked.passes_done ∙ ap (λ (a : Asked). a.passes_done) aims.ok,
+)
+
 module _ (f : Following) (target : Target) (old new : LiveRecord) (step : IsWriterStep old.database new.database)
-    (fits : Fits f old.database) where
+    (fits : Fits f old.database) (passes : KeepsPasses old.asked new.asked) where
   pub confirms_fault : (fault : LiveFault) → Confirms f target (Err (Live fault)) old new
   confirms_fault fault = record {
     step = step;
@@ -99,6 +112,7 @@ module _ (f : Following) (target : Target) (old new : LiveRecord) (step : IsWrit
     salts = no_answer target.place fault new.asked.answered;
     whole = λ legal calm broken e. absurd cc;
     fits = λ awake. fits_stays f old.database new.database step awake fits;
+    passes = passes;
   }
 
   pub confirms_rest : (sum : ℕ) → target.place ≡ Rest sum → Confirms f target (Ok tt) old new
@@ -108,6 +122,7 @@ module _ (f : Following) (target : Target) (old new : LiveRecord) (step : IsWrit
     salts = subst (λ (p : Place). IsAnswerToSalts p (Ok tt) new.asked.answered) (sym is) tt;
     whole = λ legal calm broken e. absurd cc;
     fits = λ awake. fits_stays f old.database new.database step awake fits;
+    passes = passes;
   }
     where
       no_log : ◌≡◌ {A = Bool} false true → ⊥
@@ -218,6 +233,7 @@ module _ (f : Following) (target : Target) (into : List ℕ) (n a b c e s : ℕ)
     whole = λ legal calm broken is. unbroken (a, b) now result for (there_now calm) broken is;
     fits = λ awake. fits_stays f old.database new.database (joined f target
         (take n into) into n old mid new aims fills refl room fits woke) awake fits;
+    passes = read_passes old mid new aims fills.asked;
   }
 
 pub confirms_unread : (f : Following) (target : Target) (into : List ℕ) (fault : LiveFault)
@@ -225,4 +241,4 @@ pub confirms_unread : (f : Following) (target : Target) (into : List ℕ) (fault
     → Confirms f target (Err (Live fault)) old new
 confirms_unread f target into fault old mid new aims fills fits =
     confirms_fault f target old new (step_join old.database mid.database new.database aims.call.step fills.step) fits
-    fault
+    (read_passes old mid new aims fills.asked) fault

@@ -1,5 +1,7 @@
 -- What each step of the follower keeps.
-use Rattle.std.proofs.Common.{◌≡◌, ℕ, ◌≤◌, Bool, Option, Some, None, Result, Ok, Err, sym, ap, subst, ◌∙◌, arith}
+use Rattle.std.specs.Prelude.{if◌then◌else◌}
+use Rattle.std.proofs.Common.{◌≡◌, ℕ, ◌≤◌, Bool, true, false, Option, Some, None, Result, Ok, Err}
+use Rattle.std.proofs.Common.{refl, sym, ap, subst, ◌∙◌, arith}
 use Rattle.ls_base.specs.declared.place.Place.{Place}
 use Rattle.live_gate.specs.declared.fault.LiveFault.{LiveFault}
 use Rattle.snapshot_read.specs.Offsets.{AreWithinLimit}
@@ -12,7 +14,8 @@ use Rattle.wal_follow.specs.Gathering.{Begins, KeepsBase}
 use Rattle.wal_follow.specs.Gathers.{KeepsPlaces, IsHeadAnswer, IsGatherAnswer}
 use Rattle.wal_follow.specs.declared.fault.FollowFault.TheVariants.{Header, SizesDiffer, WalTooLong, TooLarge}
 use Rattle.wal_follow.specs.declared.fault.FollowFault.TheVariants.{GateBroken, Live, Memory}
-use Rattle.wal_follow.specs.Calls.{FollowHasCause}
+use Rattle.wal_follow.specs.declared.answer.Next.TheVariants.{Same}
+use Rattle.wal_follow.specs.Calls.{FollowHasCause, KnowsPlace, Learns}
 use Rattle.wal_follow.proofs.KeptLemmas.{none_within}
 
 -- a fault that rose since a later moment rose since an earlier one
@@ -67,3 +70,38 @@ cause_err {S} {T} first second e before now one two cause = record {
   where
     same : (fault : LiveFault) → ◌≡◌ {A = Result T FollowFault} (Err e) (Err (Live fault)) → e ≡ Live fault
     same fault is = cc
+
+-- ---- the same place again
+
+-- a follower that found its own place learns how many pages the state there has
+module _ (f after : Following) (size : Option ℕ) (commit : ℕ) (place : Place) (here : f.place ≡ Some place)
+    (is : after ≡ record f { size = size; pages = if f.passed then f.pages else Some commit }) where
+  pages_by : (passed : Bool) → passed ≡ false → (if passed then f.pages else Some commit) ≡ Some commit
+  pages_by false stays = refl
+  pages_by true stays = absurd cc
+
+  knows : KnowsPlace after
+  knows = record {
+    place = place;
+    is_place = ap (λ (k : Following). k.place) is ∙ here;
+    pages = λ stays log. (
+      commit,
+      ap (λ (k : Following). k.pages) is
+          ∙ pages_by f.passed (sym (ap (λ (k : Following). k.passed) is) ∙ stays),
+    );
+  }
+
+  pub learns_same : f.found ≡ None → Learns (Ok Same) f after
+  learns_same none = record {
+    keeps = record {
+      place = ap (λ (k : Following). k.place) is;
+      recorded = ap (λ (k : Following). k.recorded) is;
+      passed = ap (λ (k : Following). k.passed) is;
+      kept = ap (λ (k : Following). k.kept.offsets) is;
+    };
+    found = ap (λ (k : Following). k.found) is ∙ none;
+    none = tt;
+    size = tt;
+    pages = tt;
+    same = λ e. knows;
+  }

@@ -222,6 +222,7 @@ module _ (f : Following) (target : Target) (number : ℕ) (offsets : Offsets) (i
     whole = λ calm x e. absurd cc;
     short = λ x e. absurd cc;
     fits = still_fits;
+    passes = (reads.asked.passes_asked, reads.asked.passes_done);
   }
 
   module _ (at_byte : (missing : ℕ) → IsErrOf r (page.Short missing) → (x : ℕ) × (get offsets number ≡ Some x)) where
@@ -234,6 +235,7 @@ module _ (f : Following) (target : Target) (number : ℕ) (offsets : Offsets) (i
       whole = λ calm x e. absurd cc;
       short = λ x e. absurd cc;
       fits = still_fits;
+      passes = (reads.asked.passes_asked, reads.asked.passes_done);
     }
     gives_fault (page.Short missing) is =
         let there : IsErrOf r (page.Short missing) = subst (λ (q : Result (Unit {0}) PageFault). IsErrOf q
@@ -248,4 +250,5 @@ module _ (f : Following) (target : Target) (number : ℕ) (offsets : Offsets) (i
               let same : missing ≡ x = cc in
               (cut.none, sym same ∙ cut.stands);
           fits = still_fits;
+          passes = (reads.asked.passes_asked, reads.asked.passes_done);
         }

@@ -13,7 +13,7 @@ use Rattle.wal_frames.specs.ValidPrefix.{if_accepted}
 use Rattle.wal_frames.specs.Marks.{IsMark, place_of}
 use Rattle.wal_frames.specs.View.{view_at, view_at_rest}
 use Rattle.live_gate.specs.declared.fault.LiveFault.{LiveFault}
-use Rattle.live_gate.specs.LiveRecord.{Database, LiveRecord}
+use Rattle.live_gate.specs.LiveRecord.{Database, Asked, LiveRecord}
 use Rattle.live_gate.specs.LiveCalls.{read_offset}
 use Rattle.live_gate.specs.Legal.{IsLegal}
 use Rattle.live_gate.specs.Step.{IsWriterStep}
@@ -37,6 +37,12 @@ pub record FollowHasCause {T : Type 0} (before now : ℕ) (result : Result T Fol
   pub later : before ≤ now
   pub rose : (fault : LiveFault) → IsErrOf result (Live fault) → Rose before now
 
+-- ---- passes
+
+-- no pass was asked for
+abbrev pub KeepsPasses : Asked → Asked → Type 0
+KeepsPasses old new = (new.passes_asked ≡ old.passes_asked) × (new.passes_done ≡ old.passes_done)
+
 -- ---- next
 
 abbrev pub target_of : Found → Target
@@ -55,6 +61,12 @@ pub record KeepsPlace (old new : Following) : Type 0 where
   pub passed : new.passed ≡ old.passed
   pub kept : new.kept.offsets ≡ old.kept.offsets
 
+-- The follower has a place and, where that is in a log that no pass emptied there, knows how many pages its state has.
+pub record KnowsPlace (f : Following) : Type 0 where
+  pub place : Place
+  pub is_place : f.place ≡ Some place
+  pub pages : f.passed ≡ false → is_in_log (Some place) ≡ true → (pages : ℕ) × (f.pages ≡ Some pages)
+
 -- What `next` keeps and learns.
 pub record Learns (result : Result Next FollowFault) (old new : Following) : Type 0 where
   pub keeps : KeepsPlace old new
@@ -62,6 +74,7 @@ pub record Learns (result : Result Next FollowFault) (old new : Following) : Typ
   pub none : OnErr result (new.found ≡ None)
   pub size : OnErr result (new.size ≡ old.size)
   pub pages : OnErr result (new.pages ≡ old.pages)
+  pub same : IfOk result (λ next. next ≡ Same → KnowsPlace new)
 
 -- What `next` does to what a live database tells.
 pub record Follows (f after : Following) (result : Result Next FollowFault) (old new : LiveRecord) : Type 0 where
@@ -72,7 +85,7 @@ pub record Follows (f after : Following) (result : Result Next FollowFault) (old
   -- the header that is read again says by chance alone that the log is another
   pub behind : new.database.chances ≡ 0 → IsReadBehind f old new
   pub fits : IsLegal old.database → new.database.stopped ≡ false → Fits after new.database
-  pub passes : (new.asked.passes_asked ≡ old.asked.passes_asked) × (new.asked.passes_done ≡ old.asked.passes_done)
+  pub passes : KeepsPasses old.asked new.asked
 
 -- ---- page
 
@@ -100,6 +113,7 @@ pub record GivesWanted
   pub short : (at : ℕ) → IsErrOf result (GateBroken (Short at))
       → (new.asked.gave_none ≡ true) × (at ≡ read_offset new)
   pub fits : new.database.stopped ≡ false → Fits f new.database
+  pub passes : KeepsPasses old.asked new.asked
 
 -- the answers that there are
 abbrev pub IsPageAnswer : Result (Unit {0}) FollowFault → Type 0
@@ -156,6 +170,7 @@ pub record Confirms
   pub whole : IsLegal old.database → new.database.chances ≡ 0 → (broken : Broken)
       → IsErrOf result (GateBroken broken) → ⊥
   pub fits : new.database.stopped ≡ false → Fits f new.database
+  pub passes : KeepsPasses old.asked new.asked
 
 -- ---- frames
 

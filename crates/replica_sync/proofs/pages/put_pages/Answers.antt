@@ -3,10 +3,9 @@ use Rattle.std.specs.Prelude.{false}
 use Rattle.snapshot_read.proofs.TellLemmas.{err_of}
 use Rattle.crash_disk.specs.GoesOn as disk
 use Rattle.live_gate.specs.LiveRecord.{GoesOn}
-use Rattle.live_gate.proofs.StepLemmas.{moves_stay, step_join}
 use Rattle.ltx_format.specs.declared.header.LtxHeader.{LtxHeader}
 use Rattle.wal_follow.specs.Following.{Fits}
-use Rattle.wal_follow.proofs.GoesOnLemmas.{goes_both}
+use Rattle.wal_follow.proofs.GoesOnLemmas.{goes_map, goes_both}
 use Rattle.replica_store.specs.Putting.{KeepsOthers}
 use Rattle.replica_store.proofs.PutLemmas.{err_leaves}
 use Rattle.replica_sync.specs.PageFile.{PutsPages, GainsPage}
@@ -15,7 +14,8 @@ use Rattle.replica_sync.specs.Answers.{HasCauses}
 use Rattle.replica_sync.specs.Reading.{ReadsFound, ReadsPage, IsReadFault}
 use Rattle.replica_sync.proofs.NumberLemmas.{above_none, page_stored, found_rises}
 use Rattle.replica_sync.proofs.PagesLemmas.{none_put, put_more}
-use Rattle.replica_sync.proofs.ReadingLemmas.{moves_then, all_read, live_now, with_now, later_causes, none_failed}
+use Rattle.replica_sync.proofs.ReadingLemmas.{moves_itself, moves_more, moves_then, all_read, live_now, with_now}
+use Rattle.replica_sync.proofs.ReadingLemmas.{later_causes, none_failed}
 use Rattle.replica_sync.proofs.pages.put_pages.Goals as goal
 
 pub loop-at-init : goal.loop-at-init
@@ -25,7 +25,7 @@ loop-at-init g c = record {
   sized = c.requires.sized;
   below = λ k from few. above_none c.args.found.now c.requires.storable c.args.file.now.writer.last k
       c.requires.begun.first few;
-  moves = moves_stay (g.L.Live.told c.args.live.now);
+  moves = moves_itself (g.L.Live.told c.args.live.now);
   fits = c.requires.fits;
   awake = c.requires.awake;
   puts = none_put c.args.found.now c.args.file.now (g.S.Disk.told c.args.store.now) (g.L.Live.told c.args.live.now);
@@ -105,8 +105,8 @@ loop-at-preserved g c =
       below = λ k from few.
           let rises = found_rises found c.requires.storable c.loop-at.at k (omega (arith, from)) few in
           omega (arith, rises, ok.last, number);
-      moves = goes_both _ _ _ _ _ _ inv.moves ok.reads (λ r mid after told step reads.
-          step_join r.database mid.database after.database step reads.reads.step);
+      moves = goes_both _ _ _ _ _ _ inv.moves ok.reads (λ r mid after told moves reads.
+          moves_more f found c.number_at-number.result page r mid after moves reads);
       fits = live_now (g.L.Live.told c.loop-at.live) (g.L.Live.told c.put_page.new.live) _ (λ r. Fits f r.database)
           (λ r. Fits f r.database) ok.reads inv.fits (λ x y was reads. reads.reads.fits (reads.awake refl));
       awake = live_now (g.L.Live.told c.loop-at.live) (g.L.Live.told c.put_page.new.live) _ (λ r. Fits f r.database)
@@ -114,7 +114,7 @@ loop-at-preserved g c =
       puts = put_more found c.loop-at.at page f c.args.file.now c.loop-at.file c.put_page.new.file
           (g.S.Disk.told c.args.store.now) (g.S.Disk.told c.loop-at.store) (g.S.Disk.told c.put_page.new.store)
           (g.L.Live.told c.args.live.now) (g.L.Live.told c.loop-at.live) (g.L.Live.told c.put_page.new.live)
-          c.requires.found inv.moves c.requires.fits
+          c.requires.found (goes_map _ _ _ _ inv.moves (λ r mid moves. moves.step)) c.requires.fits
           (subst (λ (n : ℕ). GoesOn (g.L.Live.told c.loop-at.live) (g.L.Live.told c.put_page.new.live)
           (ReadsPage f found n (Ok tt) page)) number ok.reads)
           inv.puts

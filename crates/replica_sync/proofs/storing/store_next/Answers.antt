@@ -93,6 +93,13 @@ returns-clause-ok g c = record {
       c.next_moment-moment.ensures c.in_ok-store_found.ensures.ok;
 }
 
+pub returns-clause-known : goal.returns-clause-known
+returns-clause-known g c = record {
+  place = c.args.found.now.place;
+  is_place = c.stored.ensures.place;
+  pages = λ stays log. (c.args.found.now.commit, c.stored.ensures.pages);
+}
+
 pub returns-clause-causes : goal.returns-clause-causes
 returns-clause-causes g c =
     all_well c.in_ok-name.name (g.L.Live.fault_count c.args.live.now) (g.L.Live.fault_count c.store_found.new.live)

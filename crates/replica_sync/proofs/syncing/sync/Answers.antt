@@ -137,6 +137,10 @@ returns-in-None-clause-none g c =
     let same = none_is_same c.in_ok-next.next (sym c.found_of.ensures ∙ c.in-None.is) in
     c.in_ok-next.ensures.learns.found ∙ ap (λ (answer : Next). found_in answer) same
 
+pub returns-in-None-clause-known : goal.returns-in-None-clause-known
+returns-in-None-clause-known g c =
+    c.in_ok-next.ensures.learns.same (none_is_same c.in_ok-next.next (sym c.found_of.ensures ∙ c.in-None.is))
+
 pub returns-in_err-next-clause-faith : goal.returns-in_err-next-clause-faith
 returns-in_err-next-clause-faith g c =
     faith_unchanged c.args.follower.now c.next.new.self c.args.dated.now c.args.now c.from_residual.result _

@@ -1,10 +1,10 @@
-use Rattle.std.proofs.Common.{rules, ℕ, sym, subst}
+use Rattle.std.proofs.Common.{rules, ℕ, refl, sym, subst}
 use Rattle.live_gate.proofs.StepLemmas.{step_itself}
 use Rattle.snapshot_read.proofs.TellLemmas.{err_of}
 use Rattle.wal_follow.specs.Calls.{target_of, Confirms}
 use Rattle.wal_follow.proofs.GoesOnLemmas.{goes_from, goes_both}
 use Rattle.wal_follow.proofs.ConfirmLemmas.{confirms_fault, confirms_unread, confirms_rest, confirms_read, IsAnswerFor}
-use Rattle.wal_follow.proofs.ConfirmLemmas.{salts_answered}
+use Rattle.wal_follow.proofs.ConfirmLemmas.{salts_answered, same_passes}
 use Rattle.wal_follow.proofs.follower.Follower.confirm.Goals as goal
 
 pub returns-in_err-aim-in-Wal-clause-told : goal.returns-in_err-aim-in-Wal-clause-told
@@ -13,7 +13,7 @@ returns-in_err-aim-in-Wal-clause-told g c =
     subst (λ result. Confirms c.args.self.now (target_of c.args.found.now) result r after) (sym
     (err_of _ _ c.from_residual.ensures.1))
     (confirms_fault c.args.self.now (target_of c.args.found.now) r after aims.call.step
-    (c.requires.fits r told) c.in_err-aim-in-Wal.field-0.0))
+    (c.requires.fits r told) (same_passes r.asked after.asked aims.err) c.in_err-aim-in-Wal.field-0.0))
 
 pub returns-in_err-count-in-Wal-clause-told : goal.returns-in_err-count-in-Wal-clause-told
 returns-in_err-count-in-Wal-clause-told g c =
@@ -30,7 +30,7 @@ returns-in-Rest-clause-told g c = record {
     r,
     is,
     confirms_rest c.args.self.now (target_of c.args.found.now) r r (step_itself r.database)
-        (c.requires.fits r is) c.in-Rest.sum c.in-Rest.is,
+        (c.requires.fits r is) (same_passes r.asked r.asked refl) c.in-Rest.sum c.in-Rest.is,
   );
   silent = λ is. is;
 }

@@ -12,6 +12,7 @@ use Rattle.wal_follow.specs.Gathering.{is_place}
 use Rattle.wal_follow.specs.Steps.{next_of}
 use Rattle.wal_follow.proofs.SinceLemmas.{place_found, place_itself}
 use Rattle.wal_follow.proofs.AtMarkLemmas.{refuses_sizes, refuses_large, refuses_memory, stays_there, finds_mark}
+use Rattle.wal_follow.proofs.NextLemmas.{learns_same}
 use Rattle.snapshot_read.proofs.TellLemmas.{err_of}
 use Rattle.wal_follow.proofs.following.Following.at_mark.Goals as goal
 
@@ -47,6 +48,16 @@ returns-then-is_at-clause-told c =
     let here : g.place ≡ Some (place_of d.mark) =
     place_found g.place (place_of d.mark) (ap (is_place g.place) (sym place) ∙ sym c.is_at.ensures ∙ c.if-is_at.true) in
     stays_there g c.learn.new.self d (Some c.args.size) c.requires.none here c.learn.ensures
+
+pub returns-then-is_at-clause-learns : goal.returns-then-is_at-clause-learns
+returns-then-is_at-clause-learns c =
+    let g = c.args.self.now in
+    let d = c.args.at.now in
+    let place : c.place_of-place.result ≡ place_of d.mark = c.place_of-place.ensures in
+    let here : g.place ≡ Some (place_of d.mark) =
+    place_found g.place (place_of d.mark) (ap (is_place g.place) (sym place) ∙ sym c.is_at.ensures ∙ c.if-is_at.true) in
+    learns_same g c.learn.new.self (Some c.args.size) d.mark.commit (place_of d.mark) here c.learn.ensures
+    c.requires.none
 
 pub returns-in_err-reserve-clause-told : goal.returns-in_err-reserve-clause-told
 returns-in_err-reserve-clause-told c =
