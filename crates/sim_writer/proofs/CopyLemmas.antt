@@ -1,8 +1,8 @@
 -- Copying into the database file is a step, and leaves the machine sound.
-use Rattle.std.proofs.Common.{◌≡◌, ◌≢◌, ℕ, zero, suc, ◌+◌, ◌-◌, ◌*◌, ◌/◌, ◌^◌, ◌<◌, ◌≤◌, List, [], ◌∷◌, ◌++◌, length}
-use Rattle.std.proofs.Common.{take, drop, map, Option, Some, None, Ok, refl, sym, ap, subst, ◌∙◌, inl, inr, arith}
+use Rattle.std.proofs.Common.{◌≡◌, ◌≢◌, ℕ, ◌+◌, ◌-◌, ◌/◌, ◌^◌, ◌<◌, ◌≤◌, List, [], ◌∷◌}
+use Rattle.std.proofs.Common.{take, drop, Option, Some, None, Ok, refl, sym, ap, subst, ◌∙◌, inl, inr, arith}
 use Rattle.std.specs.Prelude.{unwrap_or}
-use Rattle.std.specs.List.{Contains, range_with_len, slice_get, last_or}
+use Rattle.std.specs.List.{Contains, slice_get, last_or}
 use Rattle.std.specs.Option.{option_or}
 use Rattle.std.proofs.Math.Nat.{pow-le-pow_right, le-div_iff_mul-le}
 use Rattle.std.proofs.lemmas.Bool.{cases_lt, cases_eq}
@@ -16,14 +16,13 @@ use Rattle.wal_frames.specs.declared.header.WalHeader.{WalHeader}
 use Rattle.wal_frames.specs.WalFormat.{read_header}
 use Rattle.wal_frames.specs.ValidPrefix.{valid_frames}
 use Rattle.wal_frames.specs.Marks.{IsMark, marks_of, place_of, last_mark_of}
-use Rattle.wal_frames.specs.View.{frames_to, frames_page, file_page, unless_locked, page_at_mark}
+use Rattle.wal_frames.specs.View.{frames_to, frames_page, file_page, unless_locked}
 use Rattle.wal_frames.proofs.AcceptedLemmas.{accepts}
 use Rattle.wal_frames.proofs.LogLemmas.{last_is_mark, last_is_greatest, one_mark_an_end}
 use Rattle.checkpointer.specs.Backfill.{IsCopied}
 use Rattle.checkpointer.proofs.RestView.{some_page, unlocked}
 use Rattle.checkpointer.proofs.ViewOfPair.{same_pages}
 use Rattle.live_gate.specs.Moves.{CopiesFrames}
-use Rattle.live_gate.specs.Legal.{last_state}
 use Rattle.live_gate.proofs.CopyLemmas.{copy_step}
 use Rattle.live_gate.proofs.StillLegalLemmas.{frames_page-append}
 use Rattle.sim_writer.specs.declared.machine.Machine.{Machine}
@@ -32,7 +31,7 @@ use Rattle.sim_writer.specs.Copying.{CanBackfill, CopiesTo, CopiesMark, Backfill
 use Rattle.sim_writer.specs.InFile.{IsCopiedTo, HasFile}
 use Rattle.sim_writer.specs.Sound.{IsSound, database_of, page_behind, state_behind}
 use Rattle.sim_writer.proofs.EntryLemmas.{mark_at}
-use Rattle.sim_writer.proofs.FreshLemmas.{no_mark}
+use Rattle.sim_writer.proofs.RestLemmas.{no_mark}
 use Rattle.sim_writer.proofs.InFileLemmas.{ends_behind_header, say_take, say_found}
 
 -- ---- frames and pages
@@ -194,6 +193,9 @@ module _ (m : Machine) (s : IsSound m) (mark : Mark) (is_mark : IsMark m.committ
   state_same = ap (λ (pages : List (List ℕ)). record { page_size = Some h.size; pages = pages })
       (same_pages (page_behind h m.file frames) (page_behind h file frames) 1 s.current.count page_same)
 
+  behind_header : 32 ≤ mark.end
+  behind_header = ends_behind_header m.head m.committed accepted mark is_mark
+
   pub copied_sound : IsSound n
   copied_sound = record {
     legal = (copy_step (database_of m) (database_of n) copies).legal s.legal;
@@ -201,13 +203,14 @@ module _ (m : Machine) (s : IsSound m) (mark : Mark) (is_mark : IsMark m.committ
     current = record { count = s.current.count; is = s.current.is ∙ ap (λ (x : State). Some x) state_same };
     counted = s.counted;
     numbered = s.numbered;
+    rests = λ none. absurd (omega (arith, none, behind_header));
     files = file_then;
     last = s.last;
     stands = s.stands;
     begun = s.begun;
     over = s.over;
     headed = s.headed;
-    refuses = s.refuses;
+    has_head = s.has_head;
   }
 
 -- ---- to the mark of a number

@@ -2,9 +2,11 @@
 use Rattle.std.proofs.Common.{◌≡◌, ℕ, ◌+◌, List, [], ◌∷◌, ◌++◌, length, drop, Some}
 use Rattle.std.proofs.Common.{Option, None}
 use Rattle.std.proofs.Common.{length-append, refl, sym, ap, subst, ◌∙◌, arith}
-use Rattle.std.specs.List.{concat}
+use Rattle.std.specs.List.{concat, slice_get}
 use Rattle.std.specs.FinMap.{keys}
 use Rattle.ls_base.specs.declared.mark.Mark.{Mark}
+use Rattle.std.proofs.lemmas.Option.{slice_get_within}
+use Rattle.ls_base.specs.History.{History}
 use Rattle.ls_base.specs.State.{State}
 use Rattle.ls_sums.specs.declared.wal_sum.WalSum.{WalSum}
 use Rattle.wal_frames.specs.declared.header.WalHeader.{WalHeader}
@@ -21,10 +23,11 @@ use Rattle.sim_writer.specs.declared.machine.Machine.{Machine}
 use Rattle.sim_writer.specs.CommitFrames.{PagesByNumber, IsCommit, commit_frames}
 use Rattle.sim_writer.specs.Commits.{Makes, Puts, Commits, front_of}
 use Rattle.sim_writer.specs.InFile.{FramesSay, HasFile}
-use Rattle.sim_writer.specs.Sound.{IsSound, StandsAt, database_of, tail_of, state_behind}
+use Rattle.sim_writer.specs.Sound.{IsSound, IsFileEntry, IsRestEntry, StandsAt, database_of, tail_of, state_behind}
 use Rattle.sim_writer.proofs.InFileLemmas.{commit_says, file_grown}
 use Rattle.sim_writer.proofs.CommitLemmas.{c, last_then, sp, stands_now, accepted_now, frames_now, whole_now, known_now}
 use Rattle.sim_writer.proofs.CommitLemmas.{state_now, fits_now}
+use Rattle.sim_writer.proofs.ListLemmas.{get-front}
 use Rattle.sim_writer.proofs.TwinLemmas.{counted_rose, counted_calm}
 
 same_database : (a b : Database) → a.history ≡ b.history → a.committed ≡ b.committed → a.file ≡ b.file
@@ -127,6 +130,20 @@ module _ (m : Machine) (s : IsSound m) (pages : PagesByNumber) (size : ℕ) (is 
       (λ some. (s.stands some).taken.accepted) s.legal.is_copied (frames_now m s pages size is made mk)
       (accepted_now m s pages size is made mk) says_then s.files
 
+  rests_then : n.copied ≡ 0 → IsRestEntry n.head.size n.file n.history n.before_log
+  rests_then none =
+      let was = s.rests (sym p.copied ∙ none) in
+      let within = slice_get_within m.history m.before_log was.entry was.found in
+      record {
+        entry = was.entry;
+        found =
+            ap (slice_get n.history) p.before_log ∙ ap (λ (h : History). slice_get h m.before_log) p.history
+            ∙ get-front m.history (made.entry ∷ []) m.before_log within ∙ was.found;
+        is =
+            subst (λ (h : WalHeader). IsFileEntry h.size n.file was.entry) (sym p.head)
+            (subst (λ (file : List ℕ). IsFileEntry m.head.size file was.entry) (sym p.file) was.is);
+      }
+
   some_now : m.committed ++ made.bytes ≡ [] → ⊥
   some_now none =
       let long = (accepts (m.committed ++ made.bytes) m.head (accepted_now m s pages size is made mk)).long in
@@ -147,6 +164,7 @@ module _ (m : Machine) (s : IsSound m) (pages : PagesByNumber) (size : ℕ) (is 
           (made.entry ∷ []),
       marks_then,
     );
+    rests = rests_then;
     files =
         subst (λ (x : WalHeader). HasFile x n.file n.committed n.copied) (sym p.head)
         (subst (λ (x : List ℕ). HasFile m.head x n.committed n.copied) (sym p.file)
@@ -161,5 +179,5 @@ module _ (m : Machine) (s : IsSound m) (pages : PagesByNumber) (size : ℕ) (is 
     begun = λ none. absurd (some_now (sym p.committed ∙ none));
     over = p.over;
     headed = λ _ none. absurd (some_now (sym p.committed ∙ none));
-    refuses = p.refuses ∙ s.refuses;
+    has_head = λ _. p.headed;
   }

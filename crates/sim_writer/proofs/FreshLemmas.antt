@@ -1,55 +1,26 @@
 -- The database of a file alone.
 use Rattle.std.proofs.Common.{◌≡◌, ℕ, ◌+◌, ◌^◌, ◌≤◌, List, [], ◌∷◌, ◌++◌, length, take, drop}
-use Rattle.std.proofs.Common.{Some, None, true, false}
+use Rattle.std.proofs.Common.{Some, None, false}
 use Rattle.std.proofs.Common.{refl, sym, ap, subst, ◌∙◌, inr, append_assoc, length-append, arith}
 use Rattle.std.specs.List.{concat, slice_get}
 use Rattle.std.proofs.lemmas.List.{take-append-le}
 use Rattle.std.proofs.lemmas.Option.{slice_get_within}
 use Rattle.std.proofs.Math.Nat.{pow-le-pow_right}
 use Rattle.ls_base.specs.declared.entry.Entry.{Entry}
-use Rattle.ls_base.specs.declared.mark.Mark.{Mark}
 use Rattle.ls_base.specs.PageSize.{IsPageSize}
-use Rattle.ls_base.specs.State.{State, IsState}
 use Rattle.ls_base.specs.History.{HaveOneState, state_of}
 use Rattle.db_page.specs.DatabaseHeader.{IsWalDatabase, page_size_field, page_size_of}
 use Rattle.wal_frames.specs.declared.header.WalHeader.{WalHeader}
-use Rattle.wal_frames.specs.declared.fault.WalHeaderFault.TheVariants.{Short}
-use Rattle.wal_frames.specs.Marks.{IsMark, marks_of, last_mark_of}
-use Rattle.wal_frames.specs.View.{file_page, file_pages, view_at_rest, rest_place}
-use Rattle.wal_frames.proofs.LogLemmas.{last_is_mark, no_marks}
-use Rattle.wal_frames.proofs.ViewLemmas.{is_rest_view}
-use Rattle.live_gate.proofs.CommitLemmas.{no_log}
-use Rattle.live_gate.specs.Legal.{IsAtRest}
+use Rattle.wal_frames.specs.View.{file_page}
 use Rattle.sim_writer.specs.declared.machine.Machine.{Machine}
 use Rattle.sim_writer.specs.SimState.{IsFirst}
-use Rattle.sim_writer.specs.InFile.{FramesSay}
-use Rattle.sim_writer.specs.Sound.{IsFresh, IsSound, fresh, state_behind}
+use Rattle.sim_writer.specs.CommitFrames.{SaysSize}
+use Rattle.sim_writer.specs.Sound.{IsFresh, IsSound, fresh}
 use Rattle.sim_writer.proofs.InFileLemmas.{front_is}
 use Rattle.sim_writer.proofs.NumberLemmas.{drop_next}
-use Rattle.sim_writer.proofs.PageLemmas.{no_frames}
-
--- a log of no bytes has no mark
-pub no_mark : (log : List ℕ) → log ≡ [] → (mark : Mark) → IsMark log mark → ⊥
-no_mark log none mark is = absurd (omega (arith, is.1, ap length (ap marks_of none ∙ no_marks [] Short no_log)))
-
-pub no_last : (log : List ℕ) → log ≡ [] → (mark : Mark) → last_mark_of log ≡ Some mark → ⊥
-no_last log none mark some = no_mark log none mark (last_is_mark log mark some)
+use Rattle.sim_writer.proofs.RestLemmas.{at_rest, resting_sound}
 
 module _ (h : WalHeader) (file : List ℕ) (e : Entry) (f : IsFresh h file e) where
-  at_rest : IsAtRest (e ∷ []) [] file 0
-  at_rest = record {
-    none = refl;
-    uncopied = refl;
-    earlier = [];
-    last = e;
-    split = refl;
-    size = subst IsPageSize (sym f.size) f.page_size;
-    is_state = subst IsState (sym f.state) (is_rest_view h.size file f.page_size).is_state;
-    view = f.state ∙ ap (λ (n : ℕ). view_at_rest n file) (sym f.size);
-    place = f.place ∙ ap (λ (n : ℕ). rest_place n file) (sym f.size);
-    header = λ is. f.says is ∙ sym f.size;
-  }
-
   one_state : HaveOneState (e ∷ [])
   one_state j k a b at_j at_k same =
       let first = slice_get_within (e ∷ []) j a at_j in
@@ -61,44 +32,22 @@ module _ (h : WalHeader) (file : List ℕ) (e : Entry) (f : IsFresh h file e) wh
       let alike : a ≡ b = cc in
       ap state_of alike
 
-  none_at_rest : marks_of [] ≡ []
-  none_at_rest = no_marks [] Short no_log
-
   front : take 100 (file_page h.size file 1) ≡ take 100 file
   front =
-      let least : 2 ^ 9 ≤ 2 ^ f.page_size.0 = pow-le-pow_right (omega arith) f.page_size.1 in
-      front_is h.size file (omega (arith, f.page_size.3, least)) (omega (arith, f.long))
+      let least : 2 ^ 9 ≤ 2 ^ f.is.page_size.0 = pow-le-pow_right (omega arith) f.is.page_size.1 in
+      front_is h.size file (omega (arith, f.is.page_size.3, least)) (omega (arith, f.long))
+
+  says : SaysSize h.size (file_page h.size file 1)
+  says is = ap (λ (b : List ℕ). page_size_of (page_size_field b)) front ∙ f.says (subst IsWalDatabase front is)
 
   pub fresh_sound : IsSound (fresh h file e)
-  fresh_sound = record {
-    legal = record {
-      recorded = inr at_rest;
-      is_copied = λ some. absurd (some refl);
-      is_held = λ end held. absurd cc;
-      without_twins = λ _. one_state;
-    };
-    sums = f.sums;
-    current = record {
-      count = file_pages h.size file;
-      is = ap (λ (s : State). Some s) f.state
-          ∙ ap (λ (fs : List (List ℕ)). Some (state_behind h file fs (file_pages h.size file))) (sym (no_frames []
-          refl));
-    };
-    counted = λ mark some. absurd (no_last [] refl mark some);
-    numbered = omega (arith, ap length none_at_rest);
-    files = record {
-      says = λ is. ap (λ (b : List ℕ). page_size_of (page_size_field b)) front
-          ∙ f.says (subst IsWalDatabase front is);
-      frames_say = subst (λ (fs : List (List ℕ)). FramesSay h.size fs) (sym (no_frames [] refl)) tt;
-      stands = λ mark is _. absurd (no_mark [] refl mark is);
-    };
-    last = None;
-    stands = λ some. absurd (some refl);
-    begun = λ _. refl;
-    over = omega arith;
-    headed = λ headed. absurd cc;
-    refuses = refl;
-  }
+  fresh_sound =
+      resting_sound h file e f.is says [] [] false None false false 0 f.sums (λ headed. absurd cc) (record {
+        recorded = inr (at_rest h file e f.is says []);
+        is_copied = λ some. absurd (some refl);
+        is_held = λ end held. absurd cc;
+        without_twins = λ _. one_state;
+      })
 
 -- the same from its parts
 abbrev pub made : WalHeader → List ℕ → List Entry → List ℕ → List ℕ → Machine
@@ -114,7 +63,7 @@ made h file history committed tail = record {
   sums = record { s0 = h.s0; s1 = h.s1 };
   copied = 0;
   held = None;
-  refuses = true;
+  refuses = false;
   stopped = false;
   chances = 0;
 }

@@ -1,14 +1,17 @@
 -- What stands in the database file, and what page 1 says.
-use Rattle.std.proofs.Common.{◌≡◌, ◌≢◌, ℕ, zero, suc, ◌+◌, ◌-◌, ◌*◌, ◌≤◌, List, [], ◌∷◌, ◌++◌, length, take, drop}
+use Rattle.std.proofs.Common.{◌≡◌, ◌≢◌, ℕ, zero, suc, ◌-◌, ◌*◌, ◌^◌, ◌≤◌, List, [], ◌∷◌, ◌++◌, length, take, drop}
 use Rattle.std.proofs.Common.{Option}
 use Rattle.std.proofs.Common.{Some, None, Ok, replicate, refl, sym, ap, subst, ◌∙◌, inl, inr, append_assoc, arith}
 use Rattle.std.specs.Prelude.{unwrap_or}
-use Rattle.std.specs.List.{concat, slice_get}
+use Rattle.std.specs.List.{slice_get}
 use Rattle.std.specs.Option.{option_or}
-use Rattle.std.specs.FinMap.{get, keys}
+use Rattle.std.specs.FinMap.{keys}
 use Rattle.std.proofs.lemmas.Bool.{cases_eq, eq-eqb, ne_eqb}
-use Rattle.std.proofs.lemmas.List.{take-append-le, take-append-drop}
+use Rattle.std.proofs.Math.Nat.{pow-le-pow_right}
+use Rattle.std.proofs.lemmas.List.{take-append-le, length-take}
+use Rattle.ls_base.specs.PageSize.{IsPageSize}
 use Rattle.ls_base.specs.declared.mark.Mark.{Mark}
+use Rattle.db_page.specs.DatabaseHeader.{IsWalDatabase, page_size_field, page_size_of}
 use Rattle.ls_sums.specs.declared.wal_sum.WalSum.{WalSum}
 use Rattle.wal_frames.specs.declared.header.WalHeader.{WalHeader}
 use Rattle.wal_frames.specs.WalFormat.{read_header}
@@ -22,7 +25,7 @@ use Rattle.live_gate.specs.Legal.{IsCopied}
 use Rattle.live_gate.proofs.StillLegalLemmas.{frames_here}
 use Rattle.sim_writer.specs.CommitFrames.{PagesByNumber, IsCommit, SaysSize, AreChecked, page_in, size_before}
 use Rattle.sim_writer.specs.CommitFrames.{frame_sums, commit_frames}
-use Rattle.sim_writer.specs.InFile.{FramesSay, IsCopiedTo, HasFile}
+use Rattle.sim_writer.specs.InFile.{FramesSay, HasFile}
 use Rattle.sim_writer.proofs.SplitLemmas.{page_of_number, page_of_frame, says_number}
 
 -- ---- what page 1 says
@@ -42,6 +45,14 @@ front_is size file big long =
     fewer xs (suc k) zero less = absurd (omega (arith, less))
     fewer [] (suc k) (suc n) less = refl
     fewer (x ∷ xs) (suc k) (suc n) less = ap (λ (ys : List ℕ). x ∷ ys) (fewer xs k n (omega (arith, less)))
+
+-- a file whose first page says no other page size says none itself
+pub file_says : (size : ℕ) (file : List ℕ) → IsPageSize size → SaysSize size (file_page size file 1)
+    → IsWalDatabase (take 100 file) → page_size_of (page_size_field (take 100 file)) ≡ size
+file_says size file is_size says is =
+    let least : 2 ^ 9 ≤ 2 ^ is_size.0 = pow-le-pow_right (omega arith) is_size.1 in
+    let front = front_is size file (omega (arith, is_size.3, least)) (omega (arith, is.whole, length-take 100 file)) in
+    subst (λ (b : List ℕ). page_size_of (page_size_field b) ≡ size) front (says (subst IsWalDatabase (sym front) is))
 
 pub say_append : (size : ℕ) (xs ys : List (List ℕ)) → FramesSay size xs → FramesSay size ys → FramesSay size (xs ++ ys)
 say_append size [] ys left right = right

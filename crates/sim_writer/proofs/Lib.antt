@@ -6,14 +6,18 @@ pub mod PageLemmas
 pub mod PutLemmas
 pub mod InFileLemmas
 pub mod LooseLemmas
-mod TwinLemmas
+pub mod TwinLemmas
 pub mod SplitLemmas
 pub mod CommitLemmas
 pub mod DoneLemmas
 pub mod PassingLemmas
+pub mod RestLemmas
 pub mod FreshLemmas
 pub mod EntryLemmas
 pub mod DiskLemmas
 pub mod CopyLemmas
+pub mod EmptyLemmas
+pub mod MayEmptyLemmas
+pub mod PassLemmas
 pub mod LiveLemmas
 pub mod ReadCallLemmas

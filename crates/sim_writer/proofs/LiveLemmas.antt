@@ -1,29 +1,31 @@
 -- What each call of the scripted writer does to what it tells.
-use Rattle.std.proofs.Common.{◌≡◌, ℕ, ◌-◌, ◌*◌, ◌≤◌, Bool, true, false, List, [], ◌++◌, length}
+use Rattle.std.proofs.Common.{◌≡◌, ℕ, ◌-◌, ◌*◌, ◌≤◌, Bool, false, List, [], ◌++◌, length}
 use Rattle.std.proofs.Common.{take, drop}
 use Rattle.std.proofs.Common.{zero, suc, Option, Some, None, Ok, Err, Result, replicate, length-append, refl, sym, ap}
 use Rattle.std.proofs.Common.{subst, ◌∙◌, inl, inr, arith}
-use Rattle.std.specs.Prelude.{min}
+use Rattle.std.specs.Prelude.{min, nat_eq}
+use Rattle.std.specs.Cmp.Lexicographic.{pointwise}
 use Rattle.std.proofs.lemmas.List.{length-take}
 use Rattle.std.proofs.Math.Seq.{take-append_seam}
 use Rattle.ls_base.specs.declared.place.Place.{Place}
-use Rattle.live_gate.specs.LiveRecord.{Database, LiveRecord, Asked, GoesOn}
+use Rattle.live_gate.specs.LiveRecord.{Database, LiveRecord, Asked, GoesOn, is_at_rest}
 use Rattle.live_gate.specs.Legal.{IsLegal, IsHeld, IsMarkEnd, MayBeHeld}
 use Rattle.live_gate.specs.Step.{IsWriterStep, IsStepButHold}
 use Rattle.live_gate.specs.Moves.{CopiesFrames}
 use Rattle.live_gate.specs.Coincidence.{AddsNoTwins, CountsTwins}
 use Rattle.live_gate.specs.declared.answer.Attached.{Attached}
-use Rattle.live_gate.specs.declared.answer.Pass.TheVariants.{Kept}
+use Rattle.live_gate.specs.declared.answer.Pass.{Pass}
+use Rattle.live_gate.specs.declared.answer.Pass.TheVariants.{Passed, Kept}
 use Rattle.live_gate.specs.declared.fault.LiveFault.{LiveFault}
 use Rattle.live_gate.specs.declared.fault.PassFault.{PassFault}
-use Rattle.live_gate.specs.LiveCalls.{IsCall, Attaches, Enters, MayAdvance, Advances, Leaves, GivesHead}
-use Rattle.live_gate.specs.LiveCalls.{GivesDbSize, GivesPage, GivesLogSize, Aims, Passes}
-use Rattle.live_gate.proofs.StepLemmas.{step_itself}
+use Rattle.live_gate.specs.LiveCalls.{Keeps, IsCall, Attaches, Enters, MayAdvance, Advances, Leaves, GivesHead}
+use Rattle.live_gate.specs.LiveCalls.{GivesDbSize, GivesPage, GivesLogSize, Aims, IsKept, Passes}
+use Rattle.live_gate.proofs.StepLemmas.{step_itself, prefix_itself}
 use Rattle.std.proofs.lemmas.Option.{slice_get_within}
 use Rattle.ls_base.specs.History.{History}
 use Rattle.live_gate.proofs.StillLemmas.{goes_on}
 use Rattle.sim_writer.specs.declared.machine.Machine.{Machine}
-use Rattle.sim_writer.specs.Calls.{Goes}
+use Rattle.sim_writer.specs.Calls.{Goes, IsKeptNow, PassesNow}
 use Rattle.sim_writer.specs.Commits.{counted}
 use Rattle.sim_writer.specs.Loose.{PutsLoose}
 use Rattle.sim_writer.specs.SimState.{SimState, record_of}
@@ -64,22 +66,61 @@ legal_held d held stopped may is = record {
   without_twins = is.without_twins;
 }
 
-pub sound_held : (m : Machine) (held : Option ℕ) (stopped : Bool) → IsSound m → IsHeld m.committed m.copied held
-    → IsSound (record m { held = held; stopped = stopped })
-sound_held m held stopped s may = record {
-  legal = legal_held (database_of m) held stopped may s.legal;
+-- what may change in a machine without that the rest knows
+pub sound_with : (m : Machine) (held : Option ℕ) (refuses stopped : Bool) (chances : ℕ) → IsSound m
+    → IsHeld m.committed m.copied held → m.chances ≤ chances
+    → IsSound (record m { held = held; refuses = refuses; stopped = stopped; chances = chances })
+sound_with m held refuses stopped chances s may later = record {
+  legal = record {
+    recorded = s.legal.recorded;
+    is_copied = s.legal.is_copied;
+    is_held = may;
+    without_twins = λ zeros. s.legal.without_twins (omega (arith, zeros, later));
+  };
   sums = s.sums;
   current = s.current;
   counted = s.counted;
   numbered = s.numbered;
+  rests = s.rests;
   files = s.files;
   last = s.last;
   stands = s.stands;
   begun = s.begun;
   over = s.over;
   headed = s.headed;
-  refuses = s.refuses;
+  has_head = s.has_head;
 }
+
+pub sound_held : (m : Machine) (held : Option ℕ) (stopped : Bool) → IsSound m → IsHeld m.committed m.copied held
+    → IsSound (record m { held = held; stopped = stopped })
+sound_held m held stopped s may = sound_with m held m.refuses stopped m.chances s may (omega arith)
+
+pub sound_refusing : (m : Machine) (refuses : Bool) → IsSound m → IsSound (record m { refuses = refuses })
+sound_refusing m refuses s = sound_with m m.held refuses m.stopped m.chances s s.legal.is_held (omega arith)
+
+-- to refuse is a step
+pub refusing_step : (d : Database) (refuses : Bool) → IsWriterStep d (record d { refuses = refuses })
+refusing_step d refuses = record {
+  legal = λ is. record {
+    recorded = is.recorded;
+    is_copied = is.is_copied;
+    is_held = is.is_held;
+    without_twins = is.without_twins;
+  };
+  history = prefix_itself d.history;
+  chances = omega arith;
+  hold = λ end held. inl (record {
+    held = held;
+    committed = prefix_itself d.committed;
+    entries = refl;
+    file = λ none. refl;
+  });
+  free = λ is. is;
+  stopped = λ is. is;
+}
+
+pub refusing_twins : (d : Database) (refuses : Bool) → CountsTwins d (record d { refuses = refuses })
+refusing_twins d refuses = record { rose = inr (no_twins d.history); calm = λ _. refl }
 
 pub free_is_held : (committed : List ℕ) (copied : ℕ) → IsHeld committed copied None
 free_is_held committed copied end is = absurd cc
@@ -306,23 +347,47 @@ module _ (s : SimState) where
 
   -- ---- a pass
 
-  pub keeps : (place : Place) (at_rest : Bool) (passes : ℕ) → d.stopped ≡ false → d.refuses ≡ true
-      → passes ≡ counted s.asked.passes_asked
-      → Passes place at_rest (Ok Kept) r (with_asked (record s.asked { passes_asked = passes }))
-  keeps place at_rest passes runs refuses more = (
-    call_same (Ok Kept) runs,
-    inl refuses,
-    ap (λ (n : ℕ). record s.asked { passes_asked = n }) more,
-  )
+  abbrev pub asked_once : Asked
+  asked_once = record s.asked { passes_asked = counted s.asked.passes_asked }
 
-  pub keeps_not : (place : Place) (at_rest : Bool) (passes : ℕ) (fault : PassFault)
-      → passes ≡ counted s.asked.passes_asked
-      → Passes place at_rest (Err fault) r (with_asked (record s.asked { passes_asked = passes }))
-  keeps_not place at_rest passes fault more = (
-    inr (step_itself d),
-    twins_kept d d.held d.stopped,
-    ap (λ (n : ℕ). record s.asked { passes_asked = n }) more,
-  )
+  module _ (place : Place) (at_rest : Bool) where
+    kept_why : at_rest ≡ is_at_rest s.attached → IsKeptNow place s → IsKept place at_rest d
+    kept_why rests (inl (inl refuses)) = inl refuses
+    kept_why rests (inl (inr others)) = inr (inl (rests ∙ others))
+    kept_why rests (inr none) = inr (inr (λ mark last at held. none (record {
+      mark = mark;
+      last = last;
+      at_place = at;
+      held = held;
+    })))
+
+    pub passes : (pass : Pass) (t : SimState) → at_rest ≡ is_at_rest s.attached → d.stopped ≡ false
+        → PassesNow place (Ok pass) (record s { asked = asked_once }) t
+        → Passes place at_rest (Ok pass) r (record_of t)
+    passes Passed t rests runs (may, did, is) = (
+      did.takes,
+      did.twins,
+      rests ∙ may.at_rest,
+      did.stopped ∙ runs,
+      ap (λ (x : SimState). x.asked) is,
+    )
+    passes Kept t rests runs (why, is) =
+        subst (λ (x : SimState). Passes place at_rest (Ok Kept) r (record_of x)) (sym is)
+        (call_same (Ok Kept) runs, kept_why rests why, refl)
+
+    pub passes_not : (fault : PassFault) (t : SimState) → record_of t ≡ with_asked asked_once
+        → Passes place at_rest (Err fault) r (record_of t)
+    passes_not fault t is =
+        subst (λ (x : LiveRecord). Passes place at_rest (Err fault) r x) (sym is)
+        (inr (step_itself d), twins_kept d d.held d.stopped, refl)
+
+-- what it is attached to, and the name of the database, stay
+pub keeps_on : (a b : SimState) → b.attached ≡ a.attached → b.name ≡ a.name
+    → Keeps a.attached b.attached (λ path. pointwise nat_eq path a.name) (λ path. pointwise nat_eq path b.name)
+keeps_on a b attached name = record {
+  attached = attached;
+  there = λ i path. pointwise nat_eq path (name i);
+}
 
 -- a call that goes on finds the machine running
 pub runs_now : {s t n : SimState} → t ≡ s → Goes false s n → t.machine.stopped ≡ false

@@ -1,9 +1,12 @@
 -- Bytes put behind the last mark.
 use Rattle.std.proofs.Common.{◌≡◌, ℕ, zero, suc, ◌+◌, ◌-◌, ◌≤◌, Bool, true, false, List, [], ◌∷◌, ◌++◌, length, take}
 use Rattle.std.proofs.Common.{drop, sym, ap}
-use Rattle.std.proofs.Common.{max, replicate, refl, ◌∙◌, inl, inr, append-nil, length-append, arith}
+use Rattle.std.proofs.Common.{max, replicate, refl, ◌∙◌, inl, inr, append-nil, append_assoc, length-append, arith}
+use Rattle.std.proofs.Math.Seq.{take-append_seam}
 use Rattle.std.proofs.lemmas.Bool.{cases_lt}
-use Rattle.std.proofs.lemmas.List.{take_all, drop_all, take-append-le, length-take, length-drop, length-replicate}
+use Rattle.std.proofs.lemmas.List.{take_all, drop_all, take-append-le, length-take, length-replicate}
+use Rattle.wal_frames.specs.declared.header.WalHeader.{WalHeader}
+use Rattle.wal_frames.specs.WalFormat.{header_front, wal_header_bytes}
 use Rattle.sim_writer.specs.declared.machine.Machine.{Machine}
 use Rattle.sim_writer.specs.Loose.{PutsLoose, loose_from}
 use Rattle.sim_writer.specs.Sound.{IsSound, tail_of}
@@ -39,12 +42,26 @@ written_behind (suc over) k (x ∷ tail) z bytes from within many =
     ∙ ap (λ (n : ℕ). drop (suc over) (take (suc (over + k)) (x ∷ (tail ++ z)) ++ bytes ++ drop n (x ∷ (tail ++ z)))) two
     ∙ written_behind over k tail z bytes (omega (arith, from)) within (omega (arith, many))
 
-from_within : (m : Machine) → IsSound m → loose_from m.headed m.committed ≤ length (tail_of m)
+length_header : (h : WalHeader) → length (wal_header_bytes h) ≡ 32
+unfolding wal_header_bytes header_front
+length_header h = refl
+
+-- a list that begins with a header has room for one
+pub header_long : (h : WalHeader) (bytes : List ℕ) → take 32 bytes ≡ wal_header_bytes h → 32 ≤ length bytes
+header_long h bytes front = omega (arith, length-take 32 bytes, ap length front, length_header h)
+
+pub header_first : (h : WalHeader) (bytes rest : List ℕ) → bytes ≡ wal_header_bytes h ++ rest
+    → take 32 bytes ≡ wal_header_bytes h
+header_first h bytes rest is =
+    ap (take 32) is ∙ ap (λ (n : ℕ). take n (wal_header_bytes h ++ rest)) (sym (length_header h))
+    ∙ take-append_seam (wal_header_bytes h) rest
+
+pub from_within : (m : Machine) → IsSound m → loose_from m.headed m.committed ≤ length (tail_of m)
 from_within m s = by m.headed m.committed refl refl
   where
     by : (headed : Bool) (log : List ℕ) → m.headed ≡ headed → m.committed ≡ log
         → loose_from headed log ≤ length (tail_of m)
-    by true [] is none = s.headed is none
+    by true [] is none = header_long m.head (tail_of m) (s.headed is none)
     by true (b ∷ bs) is some = omega arith
     by false log is none = omega arith
 
@@ -83,16 +100,18 @@ module _ (m n : Machine) (bytes tail z : List ℕ) (at : ℕ) (s : IsSound m)
         s.over,
       )
 
-  headed_now : m.headed ≡ true → m.committed ≡ [] → 32 ≤ length (drop m.over put)
+  headed_now : m.headed ≡ true → m.committed ≡ [] → take 32 (drop m.over put) ≡ wal_header_bytes m.head
   headed_now headed none =
-      let had : 32 ≤ length (tail_of m) = s.headed headed none in
-      let behind = drop (k + length bytes) (tail_of m) in
-      let whole : length (drop m.over put) ≡ (length (take k (tail_of m)) + length bytes) + length behind = ap length
-      tail_now ∙ length-append (take k (tail_of m) ++ bytes) behind
-      ∙ ap (λ (n : ℕ). n + length behind) (length-append (take k (tail_of m)) bytes) in
-      let front : length (take k (tail_of m)) ≡ k = length-take k (tail_of m) ∙ omega (arith, from_within m s) in
-      let rest : length behind ≡ length (tail_of m) - (k + length bytes) = length-drop (k + length bytes) (tail_of m) in
-      omega (arith, had, whole, front, rest)
+      let front = s.headed headed none in
+      let from : k ≡ 32 = ap (λ (b : Bool). loose_from b m.committed) headed ∙ ap (loose_from true) none in
+      let long = header_long m.head (tail_of m) front in
+      let rest = drop (k + length bytes) (tail_of m) in
+      let behind = bytes ++ rest in
+      let many : length (take 32 (tail_of m)) ≡ 32 = omega (arith, length-take 32 (tail_of m), long) in
+      ap (take 32) tail_now ∙ ap (take 32) (append_assoc (take k (tail_of m)) bytes rest)
+      ∙ ap (λ (n : ℕ). take 32 (take n (tail_of m) ++ behind)) from
+      ∙ ap (λ (n : ℕ). take n (take 32 (tail_of m) ++ behind)) (sym many)
+      ∙ take-append_seam (take 32 (tail_of m)) behind ∙ front
 
   pub loose_sound : IsSound n
   loose_sound = rw is (record {
@@ -101,13 +120,14 @@ module _ (m n : Machine) (bytes tail z : List ℕ) (at : ℕ) (s : IsSound m)
     current = s.current;
     counted = s.counted;
     numbered = s.numbered;
+    rests = s.rests;
     files = s.files;
     last = s.last;
     stands = s.stands;
     begun = s.begun;
     over = long_now;
     headed = headed_now;
-    refuses = s.refuses;
+    has_head = s.has_head;
   })
 
 -- ---- the list that grew

@@ -132,7 +132,7 @@ module _ (m : Machine) (s : IsSound m) where
 
 -- ---- the pages of the last state
 
-last_found : (h : List Entry) (at : ℕ) (e : Entry) (before : Option State) → length h ≡ suc at → slice_get h at ≡ Some e
+pub last_found : (h : List Entry) (at : ℕ) (e : Entry) (before : Option State) → length h ≡ suc at → slice_get h at ≡ Some e
     → last_state before h ≡ Some (state_of e)
 last_found [] at e before many found = absurd (omega (arith, many))
 last_found (x ∷ []) zero e before many found = let same : x ≡ e = cc in ap (λ (y : Entry). Some (state_of y)) same

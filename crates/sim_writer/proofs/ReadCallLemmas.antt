@@ -21,7 +21,7 @@ use Rattle.sim_writer.specs.Passing.{IsReadFrom}
 use Rattle.sim_writer.specs.Reading.{ReadsLog}
 use Rattle.sim_writer.specs.SimState.{SimState, record_of}
 use Rattle.sim_writer.specs.Sound.{IsSound, database_of, tail_of}
-use Rattle.sim_writer.proofs.LiveLemmas.{no_twins, twins_kept}
+use Rattle.sim_writer.proofs.LiveLemmas.{no_twins, twins_kept, sound_with}
 
 module _ (s : SimState) where
   abbrev d : Database
@@ -115,25 +115,7 @@ module _ (s : SimState) where
     reads_now = subst (λ (x : LiveRecord). Reads (Ok n) into r x) (sym (ap record_of notes.is)) reads_then
 
 pub sound_noted : (m : Machine) (n : ℕ) → IsSound m → m.chances ≤ n → IsSound (record m { chances = n })
-sound_noted m n s later = record {
-  legal = record {
-    recorded = s.legal.recorded;
-    is_copied = s.legal.is_copied;
-    is_held = s.legal.is_held;
-    without_twins = λ zeros. s.legal.without_twins (omega (arith, zeros, later));
-  };
-  sums = s.sums;
-  current = s.current;
-  counted = s.counted;
-  numbered = s.numbered;
-  files = s.files;
-  last = s.last;
-  stands = s.stands;
-  begun = s.begun;
-  over = s.over;
-  headed = s.headed;
-  refuses = s.refuses;
-}
+sound_noted m n s later = sound_with m m.held m.refuses m.stopped n s s.legal.is_held later
 
 -- the count rises exactly where it is said to
 pub chance_counts : (b : Bool) (committed seen : List ℕ) (aimed : ℕ) (answered said got : List ℕ) (old now : ℕ)

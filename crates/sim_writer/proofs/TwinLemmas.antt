@@ -1,5 +1,5 @@
 -- One entry more, and whether it is a twin.
-use Rattle.std.proofs.Common.{◌≡◌, ℕ, zero, suc, ◌<◌, ◌≤◌, [], ◌∷◌, ◌++◌, length, Some, refl}
+use Rattle.std.proofs.Common.{◌≡◌, ℕ, zero, suc, ◌≤◌, [], ◌∷◌, ◌++◌, length, Some}
 use Rattle.std.proofs.Common.{sym, ap, ◌∙◌, inl, inr, arith}
 use Rattle.std.specs.Prelude.{◌⊎◌}
 use Rattle.std.specs.List.{slice_get}
@@ -11,11 +11,7 @@ use Rattle.ls_base.specs.History.{History, state_of}
 use Rattle.live_gate.specs.Coincidence.{AddsNoTwins}
 use Rattle.sim_writer.specs.Commits.{counted}
 use Rattle.sim_writer.specs.Twins.{HasTwin, HasNoTwin}
-
-at_front : (h : History) (e : Entry) (k : ℕ) → k < length h → slice_get (h ++ e ∷ []) k ≡ slice_get h k
-at_front [] e k below = absurd (omega (arith, below))
-at_front (x ∷ h) e zero below = refl
-at_front (x ∷ h) e (suc k) below = at_front h e k (omega (arith, below))
+use Rattle.sim_writer.proofs.ListLemmas.{get-front, get-end}
 
 at_end : (h : History) (e b : Entry) (k : ℕ) → length h ≤ k → slice_get (h ++ e ∷ []) k ≡ Some b → e ≡ b
 at_end [] e b zero past found = cc
@@ -23,17 +19,13 @@ at_end [] e b (suc k) past found = absurd (omega (arith, slice_get_within (e ∷
 at_end (x ∷ h) e b zero past found = absurd (omega (arith, past))
 at_end (x ∷ h) e b (suc k) past found = at_end h e b k (omega (arith, past)) found
 
-has_end : (h : History) (e : Entry) → slice_get (h ++ e ∷ []) (length h) ≡ Some e
-has_end [] e = refl
-has_end (x ∷ h) e = has_end h e
-
 module _ (h : History) (e : Entry) where
   pub none_came : HasNoTwin h e → AddsNoTwins h (h ++ e ∷ [])
   none_came none j k a b past at_j at_k same =
       let is_b : e ≡ b = at_end h e b k past at_k in
       elim (cases_lt j (length h)) [
         | inl early ↦
-            none.each j a (sym (at_front h e j early) ∙ at_j) (same ∙ ap (λ (x : Entry). x.place) (sym is_b))
+            none.each j a (sym (get-front h (e ∷ []) j early) ∙ at_j) (same ∙ ap (λ (x : Entry). x.place) (sym is_b))
             ∙ ap state_of is_b
         | inr late ↦ ap state_of (sym (at_end h e a j late at_j) ∙ is_b)
       ]
@@ -42,7 +34,7 @@ module _ (h : History) (e : Entry) where
   one_came twin none =
       let within = slice_get_within h twin.at twin.other twin.found in
       twin.differs (none twin.at (length h) twin.other e (omega arith)
-      (at_front h e twin.at within ∙ twin.found) (has_end h e) twin.place)
+      (get-front h (e ∷ []) twin.at within ∙ twin.found) (get-end h e) twin.place)
 
   -- the count rises exactly where one came
   pub counted_rose : (old now : ℕ) → (HasNoTwin h e × (now ≡ old)) ⊎ (HasTwin h e × (now ≡ counted old))

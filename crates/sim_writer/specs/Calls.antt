@@ -1,7 +1,13 @@
 -- How the calls of the scripted writer begin, and what `read` notes.
-use Rattle.std.specs.Prelude.{◌≡◌, ℕ, ◌+◌, ◌≤◌, ◌⊎◌, ◌==◌, List, ◌++◌, length, Bool, true, false}
+use Rattle.std.specs.Prelude.{◌≡◌, ℕ, ◌+◌, ◌≤◌, ◌⊎◌, ◌==◌, List, ◌++◌, length, Bool, true, false, Result, Ok, Err}
+use Rattle.ls_base.specs.declared.memory.Memory.{Memory}
+use Rattle.ls_base.specs.declared.place.Place.{Place}
+use Rattle.live_gate.specs.declared.answer.Pass.{Pass}
+use Rattle.live_gate.specs.declared.answer.Pass.TheVariants.{Passed, Kept}
 use Rattle.live_gate.specs.LiveCalls.{capped}
+use Rattle.live_gate.specs.LiveRecord.{is_at_rest}
 use Rattle.sim_writer.specs.Commits.{counted}
+use Rattle.sim_writer.specs.OwnPass.{CanPass, TakesPass}
 use Rattle.sim_writer.specs.Passing.{IsReadFrom}
 use Rattle.sim_writer.specs.SimState.{SimState}
 
@@ -31,3 +37,25 @@ pub record Notes (got : List ℕ) (old new : SimState) : Type 0 where
       taken = capped (old.asked.taken + length got);
     };
   }
+
+-- why a pass is kept: it is refused, or the last mark hasn't the place or the gate isn't held there
+abbrev pub IsKeptNow : Place → SimState → Type 0
+IsKeptNow place s =
+    ((s.machine.refuses ≡ true) ⊎ (is_at_rest s.attached ≡ false)) ⊎ (CanPass place s.machine → ⊥)
+
+-- what makes it take place
+pub record MayPass (place : Place) (s : SimState) : Type 0 where
+  pub refuses : s.machine.refuses ≡ false
+  pub at_rest : is_at_rest s.attached ≡ true
+  pub can : CanPass place s.machine
+
+-- A pass takes place exactly where it may. Where it is kept, and for want of memory, nothing changes.
+abbrev pub PassesNow : Place → Result Pass Memory → SimState → SimState → Type 0
+PassesNow place (Ok Passed) old new =
+    MayPass place old × TakesPass place old.machine new.machine
+    × (new ≡ record old {
+      machine = new.machine;
+      asked = record old.asked { passes_done = counted old.asked.passes_done };
+    })
+PassesNow place (Ok Kept) old new = IsKeptNow place old × (new ≡ old)
+PassesNow place (Err memory) old new = new ≡ old

@@ -4,6 +4,8 @@ pub mod InFile
 pub mod Sound
 pub mod Copying
 pub mod Commits
+pub mod Emptying
+pub mod OwnPass
 pub mod Passing
 pub mod Reading
 pub mod Loose

@@ -4,7 +4,6 @@ use Rattle.live_gate.specs.LiveRecord.{Asked}
 use Rattle.sim_writer.specs.declared.questions.Head.{Head}
 use Rattle.sim_writer.specs.declared.questions.Questions.{Questions}
 
--- no pass takes place
 abbrev pub asked_of : Questions → Asked
 asked_of q = record {
   aimed = q.aimed;
@@ -15,7 +14,7 @@ asked_of q = record {
   wal_size = q.wal_size;
   taken = q.taken;
   passes_asked = q.passes;
-  passes_done = 0;
+  passes_done = q.passed;
 }
 
 abbrev pub nothing_asked : Asked

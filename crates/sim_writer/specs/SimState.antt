@@ -12,11 +12,12 @@ use Rattle.live_gate.specs.Coincidence.{CountsTwins}
 use Rattle.ls_base.specs.declared.entry.Entry.{Entry}
 use Rattle.wal_frames.specs.declared.header.WalHeader.{WalHeader}
 use Rattle.sim_writer.specs.declared.act.Act.{Act}
-use Rattle.sim_writer.specs.declared.act.Act.TheVariants.{Commit, Loose, Backfill, Fault}
+use Rattle.sim_writer.specs.declared.act.Act.TheVariants.{Commit, Loose, Backfill, Restart, Cut, Refuse, Fault}
 use Rattle.sim_writer.specs.declared.machine.Machine.{Machine}
 use Rattle.sim_writer.specs.CommitFrames.{SaysSize, IsCommit}
 use Rattle.sim_writer.specs.Commits.{Commits, counted}
 use Rattle.sim_writer.specs.Copying.{CanBackfill, Backfills}
+use Rattle.sim_writer.specs.Emptying.{CanEmpty, BeginsAnew, CutsLog}
 use Rattle.sim_writer.specs.Loose.{PutsLoose}
 use Rattle.sim_writer.specs.Questions.{nothing_asked}
 use Rattle.sim_writer.specs.Sound.{database_of, fresh}
@@ -71,6 +72,9 @@ abbrev pub IsLegalAct : Act → SimState → Type 0
 IsLegalAct (Commit pages size) s = IsCommit s.machine.head.size pages size
 IsLegalAct (Loose bytes) s = Unit {0}
 IsLegalAct (Backfill mark) s = CanBackfill mark s.machine
+IsLegalAct (Restart salt2) s = CanEmpty s.machine
+IsLegalAct Cut s = CanEmpty s.machine
+IsLegalAct (Refuse refuses) s = Unit {0}
 IsLegalAct Fault s = Unit {0}
 
 -- what it does
@@ -80,6 +84,10 @@ Does (Commit pages size) old new =
 Does (Loose bytes) old new = PutsLoose bytes old.machine new.machine × (new ≡ record old { machine = new.machine })
 Does (Backfill mark) old new =
     Backfills mark old.machine new.machine × (new ≡ record old { machine = new.machine })
+Does (Restart salt2) old new =
+    BeginsAnew salt2 old.machine new.machine × (new ≡ record old { machine = new.machine })
+Does Cut old new = CutsLog old.machine new.machine × (new ≡ record old { machine = new.machine })
+Does (Refuse refuses) old new = new ≡ record old { machine = record old.machine { refuses = refuses } }
 Does Fault old new = new ≡ record old { fails = true }
 
 -- It is done exactly where it is legal; else it is counted, and nothing else changes.

@@ -18,6 +18,16 @@ pub enum Act {
     ///
     /// Legal where that is a mark of the log, past the copied one and not past the held one.
     Backfill { mark: u32 },
+    /// Begins the log anew: its next header, with this second salt, stands over the old one, and the bytes behind
+    /// it stay.
+    ///
+    /// Legal where the log has a mark, all frames are copied, the database file has exactly the pages of the last
+    /// mark's size, and the gate isn't held.
+    Restart { salt2: u32 },
+    /// Leaves a log of no bytes, of which the next header has the second salt of this one. Legal where `Restart` is.
+    Cut,
+    /// Makes each pass be refused from now on, or no longer. Always legal.
+    Refuse(bool),
     /// Makes the next call of `Live` fail. Always legal.
     Fault,
 }

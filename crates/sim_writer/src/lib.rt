@@ -19,6 +19,7 @@
 mod act;
 mod commit;
 mod copying;
+mod emptying;
 mod frames;
 mod history;
 mod live;

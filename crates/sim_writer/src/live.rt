@@ -1,11 +1,12 @@
 //! The calls of a reader.
 
-ghost use Rattle.std.specs.Prelude.{◌≡◌, ◌≤◌, true, false, OnOk, OnErr};
+ghost use Rattle.std.specs.Prelude.{◌≡◌, ◌≤◌, ◌⊎◌, true, false, OnOk, OnErr};
 ghost use Rattle.std.specs.Cmp.Lexicographic.{pointwise};
 ghost use Rattle.std.specs.Prelude.{nat_eq};
 ghost use Rattle.ls_base.specs.Fault.{Rose};
+ghost use Rattle.live_gate.specs.LiveRecord.{is_at_rest};
 ghost use Rattle.live_gate.specs.LiveCalls.{found_at};
-ghost use Rattle.sim_writer.specs.Calls.{Fails, Goes, Notes};
+ghost use Rattle.sim_writer.specs.Calls.{Fails, Goes, PassesNow, Notes};
 ghost use Rattle.sim_writer.specs.Commits.{counted};
 
 use crate::commit::count_if;
@@ -31,6 +32,34 @@ impl SimLive {
             return true;
         }
         false
+    }
+}
+
+impl SimLive {
+    /// Whether each pass is refused now: the script says so, or the last `attach` didn't say that nobody else has
+    /// the database open.
+    fn refuses(&self) -> bool
+        ensures refused { result ≡ true → (self.now.machine.refuses ≡ true) ⊎ (is_at_rest self.now.attached ≡ false) }
+        ensures may { result ≡ false
+            → (self.now.machine.refuses ≡ false) × (is_at_rest self.now.attached ≡ true) }
+    {
+        self.machine.refuses || self.path.is_none() || !self.at_rest
+    }
+
+    /// Takes the pass where that may be. `Memory` for want of it, and nothing has changed then.
+    fn pass_now(&mut self, alloc: Global, place: &Place) -> Result<Pass, Memory>
+        ensures does { PassesNow place.now result self.old self.new }
+        ensures attached { self.new.attached ≡ self.old.attached }
+        ensures name { self.new.name ≡ self.old.name }
+    {
+        if self.refuses() {
+            return Ok(Pass::Kept);
+        }
+        if !self.machine.pass(alloc, place)? {
+            return Ok(Pass::Kept);
+        }
+        self.asked.passed = count_if(self.asked.passed, true);
+        Ok(Pass::Passed)
     }
 }
 
@@ -162,13 +191,16 @@ impl Live for SimLive {
         }
     }
 
-    fn pass(&mut self, _alloc: Global, _place: &Place) -> Result<Pass, PassFault> {
+    fn pass(&mut self, alloc: Global, place: &Place) -> Result<Pass, PassFault> {
         let fails = self.begin_fails(false);
         self.asked.passes = count_if(self.asked.passes, true);
         if fails {
             return Err(PassFault::Live(LiveFault));
         }
-        Ok(Pass::Kept)
+        match self.pass_now(alloc, place) {
+            Ok(pass) => Ok(pass),
+            Err(Memory) => Err(PassFault::Memory),
+        }
     }
 
     fn faults(&self) -> u64 {

@@ -64,7 +64,7 @@ impl Machine {
             },
             copied: 0,
             held: None,
-            refuses: true,
+            refuses: false,
             stopped: false,
             chances: 0,
         })

@@ -24,6 +24,7 @@ pub(crate) struct Questions {
     pub(crate) wal_size: Option<u64>,
     pub(crate) taken: u64,
     pub(crate) passes: u64,
+    pub(crate) passed: u64,
 }
 
 impl Questions {
@@ -40,6 +41,7 @@ impl Questions {
             wal_size: None,
             taken: 0,
             passes: 0,
+            passed: 0,
         }
     }
 }

@@ -1,10 +1,10 @@
 //! The entry of a database file alone.
 
-ghost use Rattle.std.specs.Prelude.{◌≡◌, ◌≤◌, ◌++◌, min, length, take, drop, replicate, bit_xor, IfOk, OnOk};
-ghost use Rattle.ls_base.specs.History.{state_of};
-ghost use Rattle.ls_base.specs.PageSize.{IsPageSize, lock_page};
+ghost use Rattle.std.specs.Prelude.{◌≡◌, ◌≤◌, ◌++◌, min, length, take, drop, replicate, bit_xor, IfOk};
+ghost use Rattle.ls_base.specs.PageSize.{lock_page};
 ghost use Rattle.ls_sums.specs.PageSum.{counted_sum};
-ghost use Rattle.wal_frames.specs.View.{file_page, page_at_rest, view_at_rest, rest_place};
+ghost use Rattle.wal_frames.specs.View.{file_page, page_at_rest};
+ghost use Rattle.sim_writer.specs.Sound.{IsFileEntry};
 
 use ls_base::{Entry, Memory, Page, PageSize, Pages, Place};
 use ls_sums::page_sum;
@@ -79,10 +79,7 @@ fn sum_with(size: PageSize, number: u32, sum: u64, page: &Page) -> u64
 /// The entry of the database file alone: the state of the file, and its place at rest. `Memory` for want of
 /// it, as for a file of more pages than numbers.
 pub(crate) fn rest_entry(alloc: Global, file: &[u8], size: PageSize) -> Result<Entry, Memory>
-    ensures page_size { OnOk result (IsPageSize size) }
-    ensures size { IfOk result (λ entry. entry.size ≡ size) }
-    ensures state { IfOk result (λ entry. state_of entry ≡ view_at_rest size file.now) }
-    ensures place { IfOk result (λ entry. entry.place ≡ rest_place size file.now) }
+    ensures { IfOk result (IsFileEntry size file.now) }
 {
     let bytes = size.get() as usize;
     let count = ((file.len() + (bytes - 1)) / bytes).max(1);

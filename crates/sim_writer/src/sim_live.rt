@@ -2,7 +2,7 @@
 
 ghost use Rattle.std.specs.Prelude.{◌≡◌, IfOk};
 ghost use Rattle.std.specs.List.{concat};
-ghost use Rattle.sim_writer.specs.declared.act.Act.TheVariants.{Commit, Backfill};
+ghost use Rattle.sim_writer.specs.declared.act.Act.TheVariants.{Commit, Backfill, Restart, Cut};
 ghost use Rattle.sim_writer.specs.SimState.{ActsAs, IsFirst, Begins};
 
 use crate::act::Act;
@@ -106,6 +106,12 @@ impl SimLive {
                 Ok(true)
             }
             Act::Backfill { mark } => self.backfill(mark),
+            Act::Restart { salt2 } => self.restart(salt2),
+            Act::Cut => self.cut(),
+            Act::Refuse(refuses) => {
+                self.machine.refuses = refuses;
+                Ok(true)
+            }
             Act::Fault => {
                 self.fails = true;
                 Ok(true)
@@ -130,6 +136,28 @@ impl SimLive {
         ensures { ActsAs (Backfill mark) result self.old self.new }
     {
         if self.machine.backfill(self.alloc, mark)? {
+            return Ok(true);
+        }
+        self.skipped = count_if(self.skipped, true);
+        Ok(false)
+    }
+
+    /// Begins the log anew where that may be.
+    fn restart(&mut self, salt2: u32) -> Result<bool, Memory>
+        ensures { ActsAs (Restart salt2) result self.old self.new }
+    {
+        if self.machine.restart(self.alloc, salt2)? {
+            return Ok(true);
+        }
+        self.skipped = count_if(self.skipped, true);
+        Ok(false)
+    }
+
+    /// Leaves a log of no bytes where that may be.
+    fn cut(&mut self) -> Result<bool, Memory>
+        ensures { ActsAs Cut result self.old self.new }
+    {
+        if self.machine.cut(self.alloc)? {
             return Ok(true);
         }
         self.skipped = count_if(self.skipped, true);

@@ -1,4 +1,4 @@
-use Rattle.std.proofs.Common.{rules, ◌≡◌, ℕ, List, subst}
+use Rattle.std.proofs.Common.{ℕ, List, subst}
 use Rattle.sim_writer.specs.Copying.{CopiesTo}
 use Rattle.sim_writer.proofs.CopyLemmas.{backfilled, backfilled_sound}
 use Rattle.sim_writer.proofs.machine.Machine.backfill.Goals as goal

@@ -1,7 +1,5 @@
-use Rattle.std.proofs.Common.{rules, ◌≡◌, ◌≤◌, ◌+◌, ◌-◌, ℕ, Some, sym, ap, subst, ◌∙◌, arith}
-use Rattle.std.specs.List.{slice_get}
+use Rattle.std.proofs.Common.{rules, ◌≡◌, ◌≤◌, ◌-◌, ap, arith}
 use Rattle.ls_base.specs.declared.mark.Mark.{Mark}
-use Rattle.wal_frames.specs.Marks.{marks_of, place_of}
 use Rattle.sim_writer.proofs.EntryLemmas.{mark_of_entry}
 use Rattle.sim_writer.proofs.CopyLemmas.{not_at_rest, end_is, same_found}
 use Rattle.sim_writer.proofs.machine.Machine.end_to_copy.Goals as goal

@@ -1,7 +1,6 @@
-use Rattle.std.proofs.Common.{rules, ◌≡◌, ℕ, ◌+◌, ◌-◌, ◌≤◌, List, ◌++◌, length, take, replicate, max, ap, ◌∙◌, arith}
-use Rattle.std.proofs.lemmas.List.{take_all}
-use Rattle.sim_writer.specs.declared.machine.Machine.{Machine}
-use Rattle.sim_writer.proofs.LooseLemmas.{from_most, grown_tail, grown_many, loose_put, loose_sound}
+use Rattle.std.proofs.Common.{◌≡◌, ℕ, ◌+◌, ◌-◌, List, length, replicate, max, ap, arith}
+use Rattle.std.proofs.lemmas.List.{length-drop}
+use Rattle.sim_writer.proofs.LooseLemmas.{from_most, from_within, grown_tail, grown_many, loose_put, loose_sound}
 use Rattle.sim_writer.proofs.machine.Machine.put_loose.Goals as goal
 
 pub overflow_add-at : goal.overflow_add-at
@@ -13,6 +12,18 @@ overflow_add-at c =
       c.requires.sound.over,
       c.loose_from.ensures,
       from_most m.headed m.committed,
+    )
+
+pub overflow_add-end : goal.overflow_add-end
+overflow_add-end c =
+    let m = c.args.self.now in
+    omega (
+      arith,
+      ap length c.as_slice-had.ensures,
+      c.requires.sound.over,
+      c.loose_from.ensures,
+      from_within m c.requires.sound,
+      length-drop m.over m.tail,
     )
 
 pub returns-clause-ok : goal.returns-clause-ok

@@ -1,8 +1,6 @@
 use Rattle.std.proofs.Common.{ℕ, ◌≤◌, ◌++◌, List, length, None, false, sym, ap, subst, ◌∙◌}
-use Rattle.ls_base.specs.PageSize.{IsPageSize}
-use Rattle.wal_frames.specs.View.{view_at_rest, rest_place}
 use Rattle.sim_writer.specs.CommitFrames.{SaysSize}
-use Rattle.sim_writer.specs.Sound.{fresh}
+use Rattle.sim_writer.specs.Sound.{IsFileEntry, fresh}
 use Rattle.sim_writer.proofs.FreshLemmas.{first_long, first_says}
 use Rattle.sim_writer.proofs.sim_live.SimLive.new.Goals as goal
 
@@ -17,10 +15,8 @@ fresh-requires c =
     record {
       fresh = record {
         sums = c.new-head.ensures.sums;
-        page_size = subst IsPageSize same entry.page_size;
-        size = entry.size ∙ same;
-        state = entry.state ∙ ap (λ (b : List ℕ). view_at_rest size b) bytes ∙ ap (λ (n : ℕ). view_at_rest n file) same;
-        place = entry.place ∙ ap (λ (b : List ℕ). rest_place size b) bytes ∙ ap (λ (n : ℕ). rest_place n file) same;
+        is = subst (λ (n : ℕ). IsFileEntry n file c.in_ok-entry.entry) same
+            (subst (λ (b : List ℕ). IsFileEntry size b c.in_ok-entry.entry) bytes entry);
         long = subst (λ (b : List ℕ). 512 ≤ length b) (sym c.in_ok-file.ensures)
             (first_long size c.args.first.now entry.page_size c.requires.first);
         says = subst (λ (n : ℕ). SaysSize n file) same (subst (λ (b : List ℕ). SaysSize size b) (sym
