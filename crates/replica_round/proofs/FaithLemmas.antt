@@ -1,4 +1,4 @@
--- A round keeps the faith of the replica, at each of its exits.
+-- Storing the changes keeps the faith of the replica, at each of its exits.
 use Rattle.std.proofs.Common.{◌≡◌, ℕ, List, Option, Some, Result, Ok, Err, sym, subst, ◌∙◌, arith}
 use Rattle.crash_disk.specs.declared.event.Event.{Event}
 use Rattle.crash_disk.specs.Files.{files_after}
@@ -10,7 +10,7 @@ use Rattle.live_gate.specs.Legal.{IsLegal}
 use Rattle.live_gate.specs.Step.{IsWriterStep}
 use Rattle.live_gate.proofs.StepLemmas.{step_itself}
 use Rattle.replica_store.specs.declared.dated_names.Dated.{Dated}
-use Rattle.round_line.specs.declared.round.Round.{Round}
+use Rattle.replica_round.specs.declared.changing.Changed.{Changed}
 use Rattle.round_line.specs.declared.round.Synced.{Synced}
 use Rattle.wal_follow.specs.declared.following.Following.{Following}
 use Rattle.replica_sync.specs.declared.answer.SyncFault.{SyncFault}
@@ -19,16 +19,17 @@ use Rattle.replica_sync.specs.Faith.{MayHaveSynced, HasSynced, IfBothTell, SyncK
 use Rattle.replica_sync.specs.LiveSide.{Syncs}
 use Rattle.replica_sync.proofs.FaithSync.{unchanged}
 use Rattle.replica_round.specs.declared.stop.RoundStop.{RoundStop}
-use Rattle.replica_round.specs.Faith.{IsFollowed, HasKept, RoundKeepsFaith}
+use Rattle.replica_upkeep.specs.Kept.{AreFiles}
+use Rattle.replica_round.specs.Followed.{IsFollowed}
+use Rattle.replica_round.specs.ChangesFaith.{HasChanged, ChangesKeepFaith}
 use Rattle.replica_round.specs.Steps.{HoldsAt}
-use Rattle.replica_round.specs.StoreSide.{AreFiles}
 use Rattle.replica_round.proofs.KeepLemmas.{still_synced, synced_may}
 use Rattle.replica_round.proofs.ResultLemmas.{same_record, same_events}
 
 -- ---- the list of the files is refused
 
 pub read_faith : (f : Following) (now : ℕ) (stop : RoundStop) (live : Told) (store_old store_new : store.Told)
-    → store_new ≡ store_old → IfBothTell live live store_old store_new (RoundKeepsFaith f f now (Err stop))
+    → store_new ≡ store_old → IfBothTell live live store_old store_new (ChangesKeepFaith f f now (Err stop))
 read_faith f now stop live store_old store_new same old new before current l0 l1 s0 s1 log calm followed =
     let stays : IsWriterStep old.database new.database =
     subst (λ (x : LiveRecord). IsWriterStep old.database x.database) (same_record old new (sym l0 ∙ l1))
@@ -63,7 +64,7 @@ pub refused_faith : (f after : Following) (now : ℕ) (dated : List Dated) (faul
     → store.IfTold store_old (λ events. AreFiles (files_after events) dated)
     → IfTold live_old (λ r. IsLegal r.database)
     → IfBothTell live_old live_new store_mid store_new (SyncKeepsFaith f after dated now (Err fault))
-    → IfBothTell live_old live_new store_old store_new (RoundKeepsFaith f after now (Err stop))
+    → IfBothTell live_old live_new store_old store_new (ChangesKeepFaith f after now (Err stop))
 refused_faith f after now dated fault stop live_old live_new store_old store_mid store_new same are legal kept old new
     before current l0 l1 s0 s1 log calm followed =
     sync_kept f after now dated (Err fault) live_old live_new live_new store_old store_mid store_new same are legal kept
@@ -98,20 +99,20 @@ module _ (f after : Following) (now : ℕ) (dated : List Dated) (synced : Synced
 
   -- the hold stays by a fault
   pub held_faith : (cause : LiveFault) (stop : RoundStop) → GoesOn live_mid live_new (HoldsAt end (Err cause))
-      → IfBothTell live_old live_new store_old store_new (RoundKeepsFaith f after now (Err stop))
+      → IfBothTell live_old live_new store_old store_new (ChangesKeepFaith f after now (Err stop))
   held_faith cause stop holds old new before current l0 l1 s0 s1 log calm followed =
       let gone = gone_on (Err cause) holds old new before current l0 l1 s0 s1 log calm followed in
       synced_may f after now synced log old.database new.database before current
       (still_synced old.database gone.0.database new.database gone.1.err f after now synced log before current gone.2)
 
   -- it moves
-  pub done_faith : (round : Round) → round.sync ≡ synced → GoesOn live_mid live_new (HoldsAt end (Ok tt))
-      → IfBothTell live_old live_new store_old store_new (RoundKeepsFaith f after now (Ok round))
-  done_faith round is holds old new before current l0 l1 s0 s1 log calm followed =
+  pub done_faith : (changed : Changed) → changed.sync ≡ synced → GoesOn live_mid live_new (HoldsAt end (Ok tt))
+      → IfBothTell live_old live_new store_old store_new (ChangesKeepFaith f after now (Ok changed))
+  done_faith changed is holds old new before current l0 l1 s0 s1 log calm followed =
       let gone = gone_on (Ok tt) holds old new before current l0 l1 s0 s1 log calm followed in
       let moved = gone.1.step in
       let between : Database = record new.database { held = moved.held } in
-      subst (λ (one : Synced). HasKept f after now one log old.database new.database before current) (sym is)
+      subst (λ (one : Synced). HasChanged f after now one log old.database new.database before current) (sym is)
       (record {
         held = moved.held;
         keeps = still_synced old.database gone.0.database between moved.step f after now synced log before current

@@ -14,7 +14,7 @@ use Rattle.wal_follow.specs.Following.{Fits, FitsRecorded}
 use Rattle.wal_follow.specs.LogEnd.{log_end_at, log_end_of}
 use Rattle.wal_follow.proofs.FitsLemmas.{fits_stays}
 use Rattle.replica_sync.specs.LiveSide.{MayAdvanceTo}
-use Rattle.replica_round.specs.LiveSide.{IsHeldAt}
+use Rattle.replica_round.specs.ChangesLive.{IsHeldAt}
 use Rattle.replica_round.specs.Steps.{MovesHold, HoldsAt}
 
 -- ---- steps
@@ -112,9 +112,15 @@ module _ (f : Following) (old new : LiveRecord) (may : f.passed ≡ false → Ma
 pub holds_there : (end : ℕ) (result : Result (Unit {0}) LiveFault) (old new : LiveRecord) → Advances end result old new
     → HoldsAt (Some end) result old new
 holds_there end (Ok done) old new is =
-    record { step = is.step; awake = λ ok was. is.awake ok; ok = λ ok. is.ok; err = tt }
+    record { step = is.step; awake = λ ok was. is.awake ok; ok = λ ok. is.ok; err = tt; asked = is.asked }
 holds_there end (Err fault) old new is =
-    record { step = is.step; awake = λ ok was. is.awake ok; ok = λ ok. absurd (never ok); err = is.err }
+    record {
+      step = is.step;
+      awake = λ ok was. is.awake ok;
+      ok = λ ok. absurd (never ok);
+      err = is.err;
+      asked = is.asked;
+    }
   where
     never : false ≡ true → ⊥
     never e = cc
@@ -126,6 +132,7 @@ holds_nowhere r = record {
   awake = λ ok was. was;
   ok = λ ok. refl;
   err = tt;
+  asked = refl;
 }
 
 -- the hold may move to the end of a place in the log

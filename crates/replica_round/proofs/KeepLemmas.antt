@@ -103,7 +103,7 @@ one_more moment name log later adds =
     let count = ap length adds.is ∙ length-append log (adds.line ∷ []) in
     (record { more = adds.line ∷ []; is = adds.is }, omega (arith, count))
 
-adds_longer : (moment : ℕ) (synced : Synced) (log later : SyncLog) → AddsLines moment synced log later
+pub adds_longer : (moment : ℕ) (synced : Synced) (log later : SyncLog) → AddsLines moment synced log later
     → IsLonger log later × (length later ≤ length log + 1)
 adds_longer moment Same log later same =
     let count : length later ≡ length log = ap length same in

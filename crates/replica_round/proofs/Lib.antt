@@ -1,6 +1,15 @@
 pub mod ResultLemmas
 pub mod HoldLemmas
 pub mod KeepLemmas
+pub mod PassLemmas
 pub mod FaithLemmas
-pub mod LiveLemmas
+pub mod ChangesLemmas
 pub mod StoreLemmas
+pub mod RoundStore
+pub mod ChangeLemmas
+pub mod RoundPassed
+pub mod SoundLemmas
+pub mod RoundKept
+pub mod RoundFile
+pub mod RoundFaith
+pub mod RoundLive

@@ -1,9 +1,8 @@
 -- The causes of what a round answers, whether its objects tell their content or not.
-use Rattle.std.specs.Prelude.{◌≡◌, ℕ, ◌≤◌, false, Result, IsErrOf}
+use Rattle.std.specs.Prelude.{ℕ, ◌≤◌, Result, IsErrOf}
 use Rattle.crash_disk.specs.declared.fault.DiskFault.{DiskFault}
 use Rattle.ls_base.specs.Fault.{Rose}
 use Rattle.live_gate.specs.declared.fault.LiveFault.{LiveFault}
-use Rattle.round_line.specs.declared.round.Round.{Round}
 use Rattle.wal_follow.specs.declared.fault.FollowFault.TheVariants.{Live}
 use Rattle.replica_round.specs.declared.stop.RoundStop.{RoundStop}
 use Rattle.replica_round.specs.declared.stop.RoundStop.TheVariants.{Follow, Store}
@@ -15,10 +14,3 @@ pub record HasCauses
   pub store_later : store_before ≤ store_now
   pub live_rose : (cause : LiveFault) → IsErrOf result (Follow (Live cause)) → Rose live_before live_now
   pub store_rose : (cause : DiskFault) → IsErrOf result (Store cause) → Rose store_before store_now
-
--- nothing was passed, merged, dropped or lost
-pub record SyncsAlone (round : Round) : Type 0 where
-  pub passed : round.passed ≡ false
-  pub merged : round.merged ≡ 0
-  pub dropped : round.dropped ≡ 0
-  pub lost : round.lost ≡ 0

@@ -1,6 +1,13 @@
 pub mod Stop
 pub mod Causes
-pub mod StoreSide
-pub mod LiveSide
-pub mod Faith
+pub mod Followed
+pub mod Later
+pub mod ChangesStore
+pub mod ChangesLive
+pub mod ChangesFaith
 pub mod Steps
+pub mod Passing
+pub mod LiveSide
+pub mod StoreSide
+pub mod Keeping
+pub mod Faith

@@ -1,4 +1,4 @@
--- The steps of a round.
+-- The first and the last step of storing the changes.
 use Rattle.std.specs.Prelude.{◌≡◌, ◌≢◌, ℕ, false, Option, Some, None, Result, IsOk, OnErr, ◌⊎◌, ⊤}
 use Rattle.crash_disk.specs.Files.{files_after}
 use Rattle.crash_disk.specs.Told.{Told, IfTold}
@@ -7,7 +7,7 @@ use Rattle.live_gate.specs.LiveRecord.{LiveRecord}
 use Rattle.live_gate.specs.Step.{IsWriterStep, IsStepButHold}
 use Rattle.replica_store.specs.declared.error.StoreError.{StoreError}
 use Rattle.replica_store.specs.declared.error.StoreError.TheVariants.{Store, Damaged, Memory}
-use Rattle.replica_round.specs.StoreSide.{HasFirstBadHeader}
+use Rattle.replica_round.specs.ChangesStore.{HasFirstBadHeader}
 
 -- what an error of reading the list of the files and their headers means
 abbrev pub ExplainsFiles : Told → StoreError → Type 0
@@ -30,3 +30,4 @@ pub record HoldsAt
   pub awake : IsOk result → old.database.stopped ≡ false → new.database.stopped ≡ false
   pub ok : IsOk result → MovesHold end old new
   pub err : OnErr result (IsWriterStep old.database new.database)
+  pub asked : new.asked ≡ old.asked

@@ -1,42 +1,39 @@
 //! A round.
 
-ghost use Rattle.std.specs.Prelude.{◌≡◌, false, IfOk, IfErr};
-ghost use Rattle.ls_base.specs.Fault.{HasCause};
-ghost use Rattle.crash_disk.specs.Files.{files_after};
+ghost use Rattle.std.specs.Prelude.{◌≡◌};
 ghost use Rattle.crash_disk.specs.GoesOn as disk;
-ghost use Rattle.crash_disk.specs.Told as disk_told;
-ghost use Rattle.live_gate.specs.LiveRecord.{IfTold, GoesOn};
+ghost use Rattle.live_gate.specs.LiveRecord.{IfTold, GoesOn, is_at_rest};
 ghost use Rattle.live_gate.specs.LiveCalls.{Keeps};
 ghost use Rattle.live_gate.specs.Legal.{IsLegal};
-ghost use Rattle.replica_store.specs.StoreError.{StoreHasCause};
 ghost use Rattle.wal_follow.specs.Following.{Fits};
-ghost use Rattle.wal_follow.specs.LogEnd.{log_end_of};
 ghost use Rattle.replica_sync.specs.Faith.{IfBothTell};
-ghost use Rattle.replica_sync.specs.LiveSide.{MayAdvanceTo};
-ghost use Rattle.replica_round.specs.Causes.{HasCauses, SyncsAlone};
+ghost use Rattle.replica_round.specs.Causes.{HasCauses};
 ghost use Rattle.replica_round.specs.Faith.{RoundKeepsFaith};
 ghost use Rattle.replica_round.specs.LiveSide.{Rounds};
-ghost use Rattle.replica_round.specs.Steps.{ExplainsFiles, HoldsAt};
-ghost use Rattle.replica_round.specs.StoreSide.{AreFiles, StoresRound};
+ghost use Rattle.replica_round.specs.StoreSide.{StoresRound};
 
+use crate::changing::store_changes;
+use crate::keeping::keep_up;
+use crate::passing::pass_when_long;
 use crate::stop::RoundStop;
 use crash_disk::Disk;
-use live_gate::{Live, LiveFault};
-use replica_store::{DatedNames, StoreError, dated, list};
-use replica_sync::sync;
+use live_gate::Live;
 use round_line::Round;
 use std::alloc::Global;
 use wal_follow::Follower;
 
-/// Stores what changed in the live database since the follower's place, and moves the gate's hold on to the place that
-/// is then the newest one. `now` is in milliseconds since 1970-01-01T00:00:00Z, as is `keep`, how long a transaction is
-/// retained.
+/// A whole round: stores what changed in the live database since the follower's place, moves the gate's hold on to the
+/// place that is then the newest one, asks once for a pass where 1000 frames or more stand in the log up to there, and
+/// then merges the replica's files and drops those older than `keep`, as far as no transaction is lost that is to stay.
+/// `now` is in milliseconds since 1970-01-01T00:00:00Z, `keep` in milliseconds.
 ///
 /// The refusals come in the order of the steps: those of the list of the files and of their headers, `Damaged` for the
-/// first bad one in list order; then those of `sync`; then a fault of the live database as the hold moves. After Ok the
-/// follower fits again, and the replica is ready for the next round. After a refusal it has its files, and at most the
-/// one that was to be stored; the hold stays where it was. Takes memory for the list of the files, beside what `sync`
-/// takes.
+/// first bad one in list order; then those of `sync`; a fault of the live database as the hold moves, which stays then;
+/// those of the pass, which may then have taken place; and those of the upkeep, `Damaged` and `PageMissing` for a file
+/// of a run that was due. No file that tells the truth is blamed. After Ok the follower fits again, and the replica is
+/// ready for the next round. After a refusal each of its files has its bytes, or was older than the cut and is gone.
+/// The list of the files is made once, and each header read once. Takes memory for that list, 100 bytes a file, beside
+/// what `sync`, the pass and the upkeep take.
 pub fn round<L: Live, S: Disk>(
     alloc: Global,
     live: &mut L,
@@ -47,53 +44,25 @@ pub fn round<L: Live, S: Disk>(
 ) -> Result<Round, RoundStop>
     requires legal { IfTold (L.told live.old) (λ r. IsLegal r.database) }
     requires fits { IfTold (L.told live.old) (λ r. Fits follower.old r.database) }
-    ensures live { GoesOn (L.told live.old) (L.told live.new) (Rounds follower.old follower.new result) }
-    ensures store { disk.GoesOn (S.told store.old) (S.told store.new) (StoresRound now result) }
+    ensures live { GoesOn (L.told live.old) (L.told live.new) (Rounds (is_at_rest (L.attached live.old)) follower.old
+        follower.new result) }
+    ensures store { disk.GoesOn (S.told store.old) (S.told store.new) (StoresRound keep now result) }
     ensures faith { IfBothTell (L.told live.old) (L.told live.new) (S.told store.old) (S.told store.new)
-        (RoundKeepsFaith follower.old follower.new now result) }
-    ensures alone { IfOk result SyncsAlone }
+        (RoundKeepsFaith follower.old follower.new keep now result) }
     ensures keeps { Keeps (L.attached live.old) (L.attached live.new) (L.is_there live.old) (L.is_there live.new) }
     ensures same_folder { S.folder store.new ≡ S.folder store.old }
     ensures causes { HasCauses (L.fault_count live.old) (L.fault_count live.new) (S.fault_count store.old)
         (S.fault_count store.new) result }
 {
-    let _ = keep;
-    let files = files_of(alloc, store)?;
-    let synced = sync(alloc, live, store, follower, files.as_slice(), now)?;
-    hold_place(live, follower)?;
+    let changed = store_changes(alloc, live, store, follower, now)?;
+    let sync = changed.sync;
+    let passed = pass_when_long(alloc, live, follower)?;
+    let upkeep = keep_up(alloc, store, changed, keep, now)?;
     Ok(Round {
-        sync: synced,
-        passed: false,
-        merged: 0,
-        dropped: 0,
-        lost: 0,
+        sync,
+        passed,
+        merged: upkeep.merged,
+        dropped: upkeep.dropped,
+        lost: upkeep.lost,
     })
-}
-
-/// The replica's files in list order, with the moments that their headers tell.
-fn files_of<S: Disk>(alloc: Global, store: &mut S) -> Result<DatedNames, StoreError>
-    ensures value { IfOk result (λ dated. disk_told.IfTold (S.told store.old)
-        (λ events. AreFiles (files_after events) dated)) }
-    ensures explained { IfErr result (ExplainsFiles (S.told store.old)) }
-    ensures unchanged { S.told store.new ≡ S.told store.old }
-    ensures same_folder { S.folder store.new ≡ S.folder store.old }
-    ensures cause { StoreHasCause (S.fault_count store.old) (S.fault_count store.new) result }
-{
-    let names = list(alloc, store)?;
-    dated(alloc, store, names.as_slice())
-}
-
-/// Moves the hold to the end of the follower's place, where that is in the log.
-fn hold_place<L: Live>(live: &mut L, follower: &Follower) -> Result<(), LiveFault>
-    requires mark { follower.now.passed ≡ false
-        → IfTold (L.told live.old) (λ r. MayAdvanceTo follower.now.place r.database) }
-    ensures told { GoesOn (L.told live.old) (L.told live.new)
-        (HoldsAt (log_end_of follower.now follower.now.passed) result) }
-    ensures keeps { Keeps (L.attached live.old) (L.attached live.new) (L.is_there live.old) (L.is_there live.new) }
-    ensures cause { HasCause (L.fault_count live.old) (L.fault_count live.new) result }
-{
-    match follower.log_end() {
-        Some(end) => live.advance(end),
-        None => Ok(()),
-    }
 }

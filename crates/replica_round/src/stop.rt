@@ -1,12 +1,13 @@
 //! Why a round was refused.
 
 ghost use Rattle.std.specs.Prelude.{◌≡◌};
-ghost use Rattle.replica_round.specs.Stop.{stop_of_files, stop_of_sync, stop_of_hold};
+ghost use Rattle.replica_round.specs.Stop.{stop_of_files, stop_of_sync, stop_of_hold, stop_of_pass, stop_of_upkeep};
 
 use crash_disk::DiskFault;
-use live_gate::LiveFault;
+use live_gate::{LiveFault, PassFault};
 use replica_store::{Damage, FileName, StoreError};
 use replica_sync::SyncFault;
+use replica_upkeep::UpkeepStop;
 use thiserror::Error;
 use wal_follow::FollowFault;
 
@@ -23,9 +24,13 @@ pub enum RoundStop {
     /// The replica's disk failed. Its count of faults has risen, or stands at its last value.
     #[error("the replica's disk failed")]
     Store(DiskFault),
-    /// The file of this name is the first in list order whose header is damaged.
+    /// The file of this name is damaged: the first in list order whose header is, or the first of a run that was to
+    /// be merged.
     #[error("{1}")]
     Damaged(FileName, Damage),
+    /// The first file of a run that doesn't fit what those before it make, and the first page that is missing there.
+    #[error("page {1} is missing")]
+    PageMissing(FileName, u32),
     /// There was no memory.
     #[error("out of memory")]
     Memory,
@@ -61,5 +66,29 @@ impl From<LiveFault> for RoundStop {
 
     fn from(fault: LiveFault) -> RoundStop {
         RoundStop::Follow(FollowFault::Live(fault))
+    }
+}
+
+impl From<PassFault> for RoundStop {
+    ghost from_gives = { λ fault e. e ≡ stop_of_pass fault };
+
+    fn from(fault: PassFault) -> RoundStop {
+        match fault {
+            PassFault::Live(fault) => RoundStop::Follow(FollowFault::Live(fault)),
+            PassFault::Memory => RoundStop::Memory,
+        }
+    }
+}
+
+impl From<UpkeepStop> for RoundStop {
+    ghost from_gives = { λ stop e. e ≡ stop_of_upkeep stop };
+
+    fn from(stop: UpkeepStop) -> RoundStop {
+        match stop {
+            UpkeepStop::Damaged(name, damage) => RoundStop::Damaged(name, damage),
+            UpkeepStop::PageMissing(name, number) => RoundStop::PageMissing(name, number),
+            UpkeepStop::Store(fault) => RoundStop::Store(fault),
+            UpkeepStop::Memory => RoundStop::Memory,
+        }
     }
 }

@@ -1,192 +1,147 @@
-use Rattle.std.proofs.Common.{false, Result, refl, sym, subst, arith}
+use Rattle.std.proofs.Common.{Option, Result, Ok, Err, refl, sym, subst}
 use Rattle.crash_disk.specs.GoesOn as disk
-use Rattle.live_gate.specs.LiveRecord.{GoesOn}
-use Rattle.live_gate.specs.Legal.{IsLegal}
 use Rattle.round_line.specs.declared.round.Round.{Round}
-use Rattle.round_line.specs.declared.round.Synced.{Synced}
-use Rattle.wal_follow.proofs.GoesOnLemmas.{goes_from, goes_both}
-use Rattle.replica_sync.specs.Faith.{IfBothTell}
-use Rattle.replica_sync.specs.LiveSide.{MayAdvanceTo}
-use Rattle.replica_sync.proofs.ReadingLemmas.{live_now}
 use Rattle.replica_round.specs.declared.stop.RoundStop.{RoundStop}
+use Rattle.live_gate.specs.LiveRecord.{Attachment, GoesOn, is_at_rest}
 use Rattle.replica_round.specs.Faith.{RoundKeepsFaith}
-use Rattle.replica_round.specs.LiveSide.{Rounds}
-use Rattle.replica_round.specs.Stop.{stop_of_files, stop_of_sync, stop_of_hold}
 use Rattle.replica_round.specs.StoreSide.{StoresRound}
-use Rattle.replica_round.proofs.FaithLemmas.{read_faith, refused_faith, held_faith, done_faith}
-use Rattle.replica_round.proofs.LiveLemmas.{read_rounds, refused_rounds, held_rounds, done_rounds}
-use Rattle.replica_round.proofs.ResultLemmas.{err_of, files_causes, sync_causes, hold_causes, all_well}
-use Rattle.replica_round.proofs.StoreLemmas.{are_lent, read_stores, syncs_store, refused_stores, held_stores}
+use Rattle.replica_sync.specs.Faith.{IfBothTell}
+use Rattle.replica_round.proofs.RoundFaith.{refused_keeps, unpassed_keeps, unkept_keeps, done_keeps}
+use Rattle.replica_round.proofs.ResultLemmas.{err_of}
+use Rattle.replica_round.proofs.RoundStore.{round_of, unchanged_stores, unpassed_stores, unkept_stores, kept_stores}
+use Rattle.replica_round.specs.LiveSide.{Rounds}
+use Rattle.replica_round.specs.Passing.{PassesWhenLong}
+use Rattle.wal_follow.proofs.GoesOnLemmas.{goes_both}
+use Rattle.replica_round.proofs.RoundLive.{goes_fitting, unpassed_rounds, unkept_rounds, done_rounds}
 use Rattle.replica_round.proofs.rounding.round.Goals as goal
 
--- ---- the list of the files is refused
+-- ---- the live database
 
-pub returns-in_err-files-clause-live : goal.returns-in_err-files-clause-live
-returns-in_err-files-clause-live g c =
-    subst (λ (result : Result Round RoundStop). GoesOn (g.L.Live.told c.args.live.now) (g.L.Live.told c.args.live.now)
-    (Rounds c.args.follower.now c.args.follower.now result)) (sym (err_of _ _ c.from_residual.ensures.1))
-    (record {
-      told = λ r is. (
-        r,
-        is,
-        read_rounds c.args.follower.now c.in_err-files.field-0.0 r (c.requires.legal r is) (c.requires.fits r is),
-      );
-      silent = λ is. is;
-    })
-
-pub returns-in_err-files-clause-store : goal.returns-in_err-files-clause-store
-returns-in_err-files-clause-store g c =
-    subst (λ (result : Result Round RoundStop). disk.GoesOn (g.S.Disk.told c.args.store.now)
-    (g.S.Disk.told c.files_of.new.store) (StoresRound c.args.now result)) (sym (err_of _ _ c.from_residual.ensures.1))
-    (read_stores c.args.now c.in_err-files.field-0.0 (g.S.Disk.told c.args.store.now)
-    (g.S.Disk.told c.files_of.new.store) c.in_err-files.ensures.unchanged c.in_err-files.ensures.explained)
-
-pub returns-in_err-files-clause-faith : goal.returns-in_err-files-clause-faith
-returns-in_err-files-clause-faith g c =
-    subst (λ (result : Result Round RoundStop). IfBothTell (g.L.Live.told c.args.live.now)
-    (g.L.Live.told c.args.live.now) (g.S.Disk.told c.args.store.now) (g.S.Disk.told c.files_of.new.store)
-    (RoundKeepsFaith c.args.follower.now c.args.follower.now c.args.now result))
-    (sym (err_of _ _ c.from_residual.ensures.1))
-    (read_faith c.args.follower.now c.args.now (stop_of_files c.in_err-files.field-0.0)
-    (g.L.Live.told c.args.live.now) (g.S.Disk.told c.args.store.now) (g.S.Disk.told c.files_of.new.store)
-    c.in_err-files.ensures.unchanged)
-
-pub returns-in_err-files-clause-causes : goal.returns-in_err-files-clause-causes
-returns-in_err-files-clause-causes g c =
-    files_causes c.from_residual.result _ (err_of _ _ c.from_residual.ensures.1) c.in_err-files.field-0.0
-    (g.L.Live.fault_count c.args.live.now) (g.S.Disk.fault_count c.args.store.now)
-    (g.S.Disk.fault_count c.files_of.new.store) refl c.in_err-files.ensures.cause
-
--- ---- the sync is
-
-pub returns-in_err-synced-clause-live : goal.returns-in_err-synced-clause-live
-returns-in_err-synced-clause-live g c =
-    subst (λ (result : Result Round RoundStop). GoesOn (g.L.Live.told c.args.live.now) (g.L.Live.told c.sync.new.live)
-    (Rounds c.args.follower.now c.sync.new.follower result)) (sym (err_of _ _ c.from_residual-in_err-synced.ensures.1))
-    (goes_from _ _ _ _ c.in_err-synced.ensures.live (λ r after told syncs.
-    refused_rounds c.args.follower.now c.sync.new.follower c.in_err-synced.field-0.0 r after (c.requires.legal r told)
-    syncs))
-
-pub returns-in_err-synced-clause-store : goal.returns-in_err-synced-clause-store
-returns-in_err-synced-clause-store g c =
-    subst (λ (result : Result Round RoundStop). disk.GoesOn (g.S.Disk.told c.args.store.now)
-    (g.S.Disk.told c.sync.new.store) (StoresRound c.args.now result))
-    (sym (err_of _ _ c.from_residual-in_err-synced.ensures.1))
-    (refused_stores c.args.now c.in_err-synced.field-0.0 (g.S.Disk.told c.args.store.now)
-    (g.S.Disk.told c.sync.new.store)
-    (syncs_store c.args.now c.as_slice.result.now _ (g.S.Disk.told c.args.store.now)
-    (g.S.Disk.told c.files_of.new.store) (g.S.Disk.told c.sync.new.store) c.in_ok-files.ensures.unchanged
-    (are_lent (g.S.Disk.told c.args.store.now) _ _ c.as_slice.ensures c.in_ok-files.ensures.value)
-    c.in_err-synced.ensures.named c.in_err-synced.ensures.store))
-
-pub returns-in_err-synced-clause-faith : goal.returns-in_err-synced-clause-faith
-returns-in_err-synced-clause-faith g c =
-    subst (λ (result : Result Round RoundStop). IfBothTell (g.L.Live.told c.args.live.now)
-    (g.L.Live.told c.sync.new.live) (g.S.Disk.told c.args.store.now) (g.S.Disk.told c.sync.new.store)
-    (RoundKeepsFaith c.args.follower.now c.sync.new.follower c.args.now result))
-    (sym (err_of _ _ c.from_residual-in_err-synced.ensures.1))
-    (refused_faith c.args.follower.now c.sync.new.follower c.args.now c.as_slice.result.now c.in_err-synced.field-0.0
-    (stop_of_sync c.in_err-synced.field-0.0)
-    (g.L.Live.told c.args.live.now) (g.L.Live.told c.sync.new.live) (g.S.Disk.told c.args.store.now)
-    (g.S.Disk.told c.files_of.new.store) (g.S.Disk.told c.sync.new.store) c.in_ok-files.ensures.unchanged
-    (are_lent (g.S.Disk.told c.args.store.now) _ _ c.as_slice.ensures c.in_ok-files.ensures.value) c.requires.legal
-    c.in_err-synced.ensures.faith)
-
-pub returns-in_err-synced-clause-causes : goal.returns-in_err-synced-clause-causes
-returns-in_err-synced-clause-causes g c =
-    sync_causes c.from_residual-in_err-synced.result _ (err_of _ _ c.from_residual-in_err-synced.ensures.1)
-    c.in_err-synced.field-0.0 (g.L.Live.fault_count c.args.live.now) (g.L.Live.fault_count c.sync.new.live)
-    (g.S.Disk.fault_count c.args.store.now) (g.S.Disk.fault_count c.files_of.new.store)
-    (g.S.Disk.fault_count c.sync.new.store) refl c.in_ok-files.ensures.cause.later c.in_err-synced.ensures.causes
-
--- ---- the hold stays by a fault
-
-pub hold_place-requires : goal.hold_place-requires
-hold_place-requires g c = record {
-  mark = λ stays.
-      live_now (g.L.Live.told c.args.live.now) (g.L.Live.told c.sync.new.live) _ (λ r. IsLegal r.database)
-      (λ r. MayAdvanceTo c.sync.new.follower.place r.database) c.in_ok-synced.ensures.live c.requires.legal
-      (λ x y legal syncs. syncs.hold legal refl stays);
-}
-
-pub returns-in_err-hold_place-clause-live : goal.returns-in_err-hold_place-clause-live
-returns-in_err-hold_place-clause-live g c =
+pub returns-in_err-passed-clause-live : goal.returns-in_err-passed-clause-live
+returns-in_err-passed-clause-live g c =
     subst (λ (result : Result Round RoundStop). GoesOn (g.L.Live.told c.args.live.now)
-    (g.L.Live.told c.hold_place.new.live) (Rounds c.args.follower.now c.sync.new.follower result))
-    (sym (err_of _ _ c.from_residual-in_err-hold_place.ensures.1))
-    (goes_both _ _ _ _ _ _ c.in_ok-synced.ensures.live c.in_err-hold_place.ensures.told
-    (λ r mid after told syncs holds.
-    held_rounds c.args.follower.now c.sync.new.follower c.in_ok-synced.synced r mid after (c.requires.legal r told)
-    c.in_ok-synced.ensures.none syncs _ c.in_err-hold_place.field-0.0 holds))
+    (g.L.Live.told c.pass_when_long.new.live) (Rounds (is_at_rest (g.L.Live.attached c.args.live.now))
+    c.args.follower.now c.pass_when_long.new.follower result)) (sym (err_of _ _ c.from_residual-in_err-passed.ensures.1))
+    (goes_both _ _ _ _ _ _ c.in_ok-changed.ensures.live c.in_err-passed.ensures.told
+    (λ r mid after told changes passes.
+    unpassed_rounds c.args.follower.now c.store_changes.new.follower c.pass_when_long.new.follower
+    (is_at_rest (g.L.Live.attached c.args.live.now)) c.in_ok-changed.changed r mid after changes
+    c.in_err-passed.field-0.0
+    (subst (λ (at : Option Attachment). PassesWhenLong c.store_changes.new.follower c.pass_when_long.new.follower
+    (is_at_rest at) (Err c.in_err-passed.field-0.0) mid after) c.in_ok-changed.ensures.keeps.attached passes)))
 
-pub returns-in_err-hold_place-clause-store : goal.returns-in_err-hold_place-clause-store
-returns-in_err-hold_place-clause-store g c =
-    subst (λ (result : Result Round RoundStop). disk.GoesOn (g.S.Disk.told c.args.store.now)
-    (g.S.Disk.told c.sync.new.store) (StoresRound c.args.now result))
-    (sym (err_of _ _ c.from_residual-in_err-hold_place.ensures.1))
-    (held_stores c.args.now c.in_ok-synced.synced c.in_err-hold_place.field-0.0 (g.S.Disk.told c.args.store.now)
-    (g.S.Disk.told c.sync.new.store)
-    (syncs_store c.args.now c.as_slice.result.now _ (g.S.Disk.told c.args.store.now)
-    (g.S.Disk.told c.files_of.new.store) (g.S.Disk.told c.sync.new.store) c.in_ok-files.ensures.unchanged
-    (are_lent (g.S.Disk.told c.args.store.now) _ _ c.as_slice.ensures c.in_ok-files.ensures.value)
-    c.in_ok-synced.ensures.named c.in_ok-synced.ensures.store))
-
-pub returns-in_err-hold_place-clause-faith : goal.returns-in_err-hold_place-clause-faith
-returns-in_err-hold_place-clause-faith g c =
-    subst (λ (result : Result Round RoundStop). IfBothTell (g.L.Live.told c.args.live.now)
-    (g.L.Live.told c.hold_place.new.live) (g.S.Disk.told c.args.store.now) (g.S.Disk.told c.sync.new.store)
-    (RoundKeepsFaith c.args.follower.now c.sync.new.follower c.args.now result))
-    (sym (err_of _ _ c.from_residual-in_err-hold_place.ensures.1))
-    (held_faith c.args.follower.now c.sync.new.follower c.args.now c.as_slice.result.now c.in_ok-synced.synced
-    (g.L.Live.told c.args.live.now) (g.L.Live.told c.sync.new.live) (g.L.Live.told c.hold_place.new.live)
-    (g.S.Disk.told c.args.store.now) (g.S.Disk.told c.files_of.new.store) (g.S.Disk.told c.sync.new.store)
-    c.in_ok-files.ensures.unchanged
-    (are_lent (g.S.Disk.told c.args.store.now) _ _ c.as_slice.ensures c.in_ok-files.ensures.value) c.requires.legal
-    c.in_ok-synced.ensures.live c.in_ok-synced.ensures.faith _ c.in_err-hold_place.field-0.0
-    (stop_of_hold c.in_err-hold_place.field-0.0) c.in_err-hold_place.ensures.told)
-
-pub returns-in_err-hold_place-clause-causes : goal.returns-in_err-hold_place-clause-causes
-returns-in_err-hold_place-clause-causes g c =
-    hold_causes c.from_residual-in_err-hold_place.result _ (err_of _ _ c.from_residual-in_err-hold_place.ensures.1)
-    c.in_err-hold_place.field-0.0 (g.L.Live.fault_count c.args.live.now) (g.L.Live.fault_count c.sync.new.live)
-    (g.L.Live.fault_count c.hold_place.new.live) (g.S.Disk.fault_count c.args.store.now)
-    (g.S.Disk.fault_count c.sync.new.store) refl c.in_ok-synced.ensures.causes.live_later
-    (omega (arith, c.in_ok-files.ensures.cause.later, c.in_ok-synced.ensures.causes.store_later))
-    c.in_err-hold_place.ensures.cause
-
--- ---- the hold moves
-
--- what a round did that synced alone
-abbrev round_of : Synced → Round
-round_of synced = record { sync = synced; passed = false; merged = 0; dropped = 0; lost = 0 }
+pub returns-in_err-upkeep-clause-live : goal.returns-in_err-upkeep-clause-live
+returns-in_err-upkeep-clause-live g c =
+    subst (λ (result : Result Round RoundStop). GoesOn (g.L.Live.told c.args.live.now)
+    (g.L.Live.told c.pass_when_long.new.live) (Rounds (is_at_rest (g.L.Live.attached c.args.live.now))
+    c.args.follower.now c.pass_when_long.new.follower result)) (sym (err_of _ _ c.from_residual-in_err-upkeep.ensures.1))
+    (goes_fitting _ _ _ _ _ _ _ c.in_ok-changed.ensures.live c.in_ok-passed.ensures.told c.in_ok-passed.ensures.fits
+    (λ r mid after changes passes fits.
+    unkept_rounds c.args.follower.now c.store_changes.new.follower c.pass_when_long.new.follower
+    (is_at_rest (g.L.Live.attached c.args.live.now)) c.in_ok-changed.changed r mid after changes c.in_ok-passed.passed
+    (subst (λ (at : Option Attachment). PassesWhenLong c.store_changes.new.follower c.pass_when_long.new.follower
+    (is_at_rest at) (Ok c.in_ok-passed.passed) mid after) c.in_ok-changed.ensures.keeps.attached passes)
+    fits c.in_err-upkeep.field-0.0))
 
 pub returns-clause-live : goal.returns-clause-live
 returns-clause-live g c =
-    goes_both _ _ _ _ _ _ c.in_ok-synced.ensures.live c.in_ok-hold_place.ensures.told
-    (λ r mid after told syncs holds.
-    done_rounds c.args.follower.now c.sync.new.follower c.in_ok-synced.synced r mid after (c.requires.legal r told)
-    c.in_ok-synced.ensures.none syncs _ refl holds)
+    goes_fitting _ _ _ _ _ _ _ c.in_ok-changed.ensures.live c.in_ok-passed.ensures.told c.in_ok-passed.ensures.fits
+    (λ r mid after changes passes fits.
+    done_rounds c.args.follower.now c.store_changes.new.follower c.pass_when_long.new.follower
+    (is_at_rest (g.L.Live.attached c.args.live.now)) c.in_ok-changed.changed r mid after changes c.in_ok-passed.passed
+    (subst (λ (at : Option Attachment). PassesWhenLong c.store_changes.new.follower c.pass_when_long.new.follower
+    (is_at_rest at) (Ok c.in_ok-passed.passed) mid after) c.in_ok-changed.ensures.keeps.attached passes)
+    fits (round_of c.in_ok-changed.changed c.in_ok-passed.passed c.in_ok-upkeep.upkeep) refl refl)
+
+-- ---- storing the changes is refused
+
+pub returns-in_err-changed-clause-store : goal.returns-in_err-changed-clause-store
+returns-in_err-changed-clause-store g c =
+    subst (λ (result : Result Round RoundStop). disk.GoesOn (g.S.Disk.told c.args.store.now)
+    (g.S.Disk.told c.store_changes.new.store) (StoresRound c.args.keep c.args.now result))
+    (sym (err_of _ _ c.from_residual.ensures.1))
+    (unchanged_stores c.args.keep c.args.now c.in_err-changed.field-0.0 (g.S.Disk.told c.args.store.now)
+    (g.S.Disk.told c.store_changes.new.store) c.in_err-changed.ensures.store)
+
+-- ---- the pass is
+
+pub returns-in_err-passed-clause-store : goal.returns-in_err-passed-clause-store
+returns-in_err-passed-clause-store g c =
+    subst (λ (result : Result Round RoundStop). disk.GoesOn (g.S.Disk.told c.args.store.now)
+    (g.S.Disk.told c.store_changes.new.store) (StoresRound c.args.keep c.args.now result))
+    (sym (err_of _ _ c.from_residual-in_err-passed.ensures.1))
+    (unpassed_stores c.args.keep c.args.now c.in_ok-changed.changed c.in_err-passed.field-0.0
+    (g.S.Disk.told c.args.store.now) (g.S.Disk.told c.store_changes.new.store) c.in_ok-changed.ensures.store)
+
+-- ---- the upkeep is asked
+
+pub keep_up-requires : goal.keep_up-requires
+keep_up-requires g c = record { in_order = c.in_ok-changed.ensures.in_order; files = c.in_ok-changed.ensures.files }
+
+pub returns-in_err-upkeep-clause-store : goal.returns-in_err-upkeep-clause-store
+returns-in_err-upkeep-clause-store g c =
+    subst (λ (result : Result Round RoundStop). disk.GoesOn (g.S.Disk.told c.args.store.now)
+    (g.S.Disk.told c.keep_up.new.store) (StoresRound c.args.keep c.args.now result))
+    (sym (err_of _ _ c.from_residual-in_err-upkeep.ensures.1))
+    (unkept_stores c.args.keep c.args.now c.in_ok-changed.changed c.in_err-upkeep.field-0.0
+    (g.S.Disk.told c.args.store.now) (g.S.Disk.told c.store_changes.new.store) (g.S.Disk.told c.keep_up.new.store)
+    c.in_ok-changed.ensures.store c.in_ok-changed.ensures.files c.in_err-upkeep.ensures.explained
+    c.in_err-upkeep.ensures.files)
 
 pub returns-clause-store : goal.returns-clause-store
 returns-clause-store g c =
-    syncs_store c.args.now c.as_slice.result.now _ (g.S.Disk.told c.args.store.now)
-    (g.S.Disk.told c.files_of.new.store) (g.S.Disk.told c.sync.new.store) c.in_ok-files.ensures.unchanged
-    (are_lent (g.S.Disk.told c.args.store.now) _ _ c.as_slice.ensures c.in_ok-files.ensures.value)
-    c.in_ok-synced.ensures.named c.in_ok-synced.ensures.store
+    kept_stores c.args.keep c.args.now c.in_ok-changed.changed c.in_ok-passed.passed c.in_ok-upkeep.upkeep
+    (g.S.Disk.told c.args.store.now) (g.S.Disk.told c.store_changes.new.store) (g.S.Disk.told c.keep_up.new.store)
+    c.in_ok-changed.ensures.store c.in_ok-changed.ensures.files c.in_ok-upkeep.ensures.ok c.in_ok-upkeep.ensures.files
+
+-- ---- the faith of the replica
+
+pub returns-in_err-changed-clause-faith : goal.returns-in_err-changed-clause-faith
+returns-in_err-changed-clause-faith g c =
+    subst (λ (result : Result Round RoundStop). IfBothTell (g.L.Live.told c.args.live.now)
+    (g.L.Live.told c.store_changes.new.live) (g.S.Disk.told c.args.store.now) (g.S.Disk.told c.store_changes.new.store)
+    (RoundKeepsFaith c.args.follower.now c.store_changes.new.follower c.args.keep c.args.now result))
+    (sym (err_of _ _ c.from_residual.ensures.1))
+    (refused_keeps c.args.follower.now c.store_changes.new.follower c.args.keep c.args.now c.in_err-changed.field-0.0
+    (g.L.Live.told c.args.live.now) (g.L.Live.told c.store_changes.new.live) (g.S.Disk.told c.args.store.now)
+    (g.S.Disk.told c.store_changes.new.store) c.in_err-changed.ensures.store c.in_err-changed.ensures.faith)
+
+pub returns-in_err-passed-clause-faith : goal.returns-in_err-passed-clause-faith
+returns-in_err-passed-clause-faith g c =
+    subst (λ (result : Result Round RoundStop). IfBothTell (g.L.Live.told c.args.live.now)
+    (g.L.Live.told c.pass_when_long.new.live) (g.S.Disk.told c.args.store.now)
+    (g.S.Disk.told c.store_changes.new.store) (RoundKeepsFaith c.args.follower.now c.pass_when_long.new.follower
+    c.args.keep c.args.now result)) (sym (err_of _ _ c.from_residual-in_err-passed.ensures.1))
+    (unpassed_keeps c.args.follower.now c.store_changes.new.follower c.pass_when_long.new.follower
+    (is_at_rest (g.L.Live.attached c.store_changes.new.live)) (Err c.in_err-passed.field-0.0) c.args.keep
+    c.args.now c.in_ok-changed.changed (g.L.Live.told c.args.live.now) (g.L.Live.told c.store_changes.new.live)
+    (g.L.Live.told c.pass_when_long.new.live) (g.S.Disk.told c.args.store.now)
+    (g.S.Disk.told c.store_changes.new.store) c.in_ok-changed.ensures.live c.in_ok-changed.ensures.faith
+    c.in_err-passed.ensures.told c.in_err-passed.field-0.0)
+
+pub returns-in_err-upkeep-clause-faith : goal.returns-in_err-upkeep-clause-faith
+returns-in_err-upkeep-clause-faith g c =
+    subst (λ (result : Result Round RoundStop). IfBothTell (g.L.Live.told c.args.live.now)
+    (g.L.Live.told c.pass_when_long.new.live) (g.S.Disk.told c.args.store.now) (g.S.Disk.told c.keep_up.new.store)
+    (RoundKeepsFaith c.args.follower.now c.pass_when_long.new.follower c.args.keep c.args.now result))
+    (sym (err_of _ _ c.from_residual-in_err-upkeep.ensures.1))
+    (unkept_keeps c.args.follower.now c.store_changes.new.follower c.pass_when_long.new.follower
+    (is_at_rest (g.L.Live.attached c.store_changes.new.live)) (Ok c.in_ok-passed.passed) c.args.keep
+    c.args.now c.in_ok-changed.changed (g.L.Live.told c.args.live.now) (g.L.Live.told c.store_changes.new.live)
+    (g.L.Live.told c.pass_when_long.new.live) (g.S.Disk.told c.args.store.now)
+    (g.S.Disk.told c.store_changes.new.store) c.in_ok-changed.ensures.live c.in_ok-changed.ensures.faith
+    c.in_ok-passed.ensures.told c.in_ok-changed.ensures.known c.in_ok-changed.ensures.store
+    (g.S.Disk.told c.keep_up.new.store) c.in_err-upkeep.ensures.faith c.in_err-upkeep.field-0.0
+    c.in_err-upkeep.ensures.sound)
 
 pub returns-clause-faith : goal.returns-clause-faith
 returns-clause-faith g c =
-    done_faith c.args.follower.now c.sync.new.follower c.args.now c.as_slice.result.now c.in_ok-synced.synced
-    (g.L.Live.told c.args.live.now) (g.L.Live.told c.sync.new.live) (g.L.Live.told c.hold_place.new.live)
-    (g.S.Disk.told c.args.store.now) (g.S.Disk.told c.files_of.new.store) (g.S.Disk.told c.sync.new.store)
-    c.in_ok-files.ensures.unchanged
-    (are_lent (g.S.Disk.told c.args.store.now) _ _ c.as_slice.ensures c.in_ok-files.ensures.value) c.requires.legal
-    c.in_ok-synced.ensures.live c.in_ok-synced.ensures.faith _ (round_of c.in_ok-synced.synced) refl
-    c.in_ok-hold_place.ensures.told
-
-pub returns-clause-causes : goal.returns-clause-causes
-returns-clause-causes g c =
-    all_well _ (g.L.Live.fault_count c.args.live.now) (g.L.Live.fault_count c.hold_place.new.live)
-    (g.S.Disk.fault_count c.args.store.now) (g.S.Disk.fault_count c.sync.new.store)
-    (omega (arith, c.in_ok-synced.ensures.causes.live_later, c.in_ok-hold_place.ensures.cause.later))
-    (omega (arith, c.in_ok-files.ensures.cause.later, c.in_ok-synced.ensures.causes.store_later))
+    done_keeps c.args.follower.now c.store_changes.new.follower c.pass_when_long.new.follower
+    (is_at_rest (g.L.Live.attached c.store_changes.new.live)) (Ok c.in_ok-passed.passed) c.args.keep
+    c.args.now c.in_ok-changed.changed (g.L.Live.told c.args.live.now) (g.L.Live.told c.store_changes.new.live)
+    (g.L.Live.told c.pass_when_long.new.live) (g.S.Disk.told c.args.store.now)
+    (g.S.Disk.told c.store_changes.new.store) c.in_ok-changed.ensures.live c.in_ok-changed.ensures.faith
+    c.in_ok-passed.ensures.told c.in_ok-changed.ensures.known c.in_ok-changed.ensures.store
+    (g.S.Disk.told c.keep_up.new.store) c.in_ok-upkeep.ensures.faith
+    (round_of c.in_ok-changed.changed c.in_ok-passed.passed c.in_ok-upkeep.upkeep) refl c.in_ok-passed.ensures.place
+    c.in_ok-upkeep.ensures.files c.in_ok-upkeep.ensures.settles

@@ -3,7 +3,7 @@ use Rattle.live_gate.specs.LiveRecord.{GoesOn}
 use Rattle.wal_follow.proofs.GoesOnLemmas.{goes_map}
 use Rattle.replica_round.proofs.HoldLemmas.{holds_there, holds_nowhere, may_advance_to}
 use Rattle.replica_round.specs.Steps.{HoldsAt}
-use Rattle.replica_round.proofs.rounding.hold_place.Goals as goal
+use Rattle.replica_round.proofs.changing.hold_place.Goals as goal
 
 pub advance-requires : goal.advance-requires
 advance-requires g c = record {
