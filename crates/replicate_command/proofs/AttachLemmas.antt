@@ -16,7 +16,8 @@ use Rattle.replicate_command.specs.Stop.{stop_of_names, why_of_stop}
 use Rattle.replicate_command.specs.declared.stop.ReplicateStop.{ReplicateStop}
 use Rattle.replicate_command.specs.declared.stop.ReplicateStop.TheVariants.{NoDatabase, Header, SizesDiffer}
 use Rattle.replicate_command.specs.declared.stop.ReplicateStop.TheVariants.{WalTooLong, TooLarge, GateBroken, Damaged}
-use Rattle.replicate_command.specs.declared.stop.ReplicateStop.TheVariants.{TxidSpent, Live, Store, Sink, Memory}
+use Rattle.replicate_command.specs.declared.stop.ReplicateStop.TheVariants.{PageMissing, TxidSpent, Live, Store, Sink}
+use Rattle.replicate_command.specs.declared.stop.ReplicateStop.TheVariants.{Memory}
 use Rattle.replicate_command.proofs.EndLemmas.{refused_first}
 use Rattle.replicate_command.proofs.LaterLemmas.{live_weaker, told_before}
 
@@ -48,23 +49,28 @@ attach_refused seen NoDatabase store text faults live explained =
     faults
     (λ r told none calm. inl refl)
     (λ no_fault memory calm r told. (told_before _ _ _ live r told).2.holds) (λ done. absurd cc)
+    (record { damaged = λ n d e. cc; lacking = λ n p e. cc })
 attach_refused seen Live store text faults live explained =
     refused_first seen why.LiveFault refl explained (live_weaker _ _ _ _ live (λ x y both. both.later)) store text
     faults
     (λ r told none calm. absurd (calm explained)) (λ no_fault. absurd (no_fault refl)) (λ done. absurd cc)
+    (record { damaged = λ n d e. cc; lacking = λ n p e. cc })
 attach_refused seen Store store text faults live explained =
     refused_first seen why.StoreFault refl explained.0 (live_weaker _ _ _ _ live (λ x y both. both.later)) store text
     faults (λ r told none calm. absurd (explained.1 r told none))
     (λ no_fault memory calm r told. (told_before _ _ _ live r told).2.holds) (λ done. absurd cc)
+    (record { damaged = λ n d e. cc; lacking = λ n p e. cc })
 attach_refused seen Memory store text faults live explained =
     refused_first seen why.Memory refl tt (live_weaker _ _ _ _ live (λ x y both. both.later)) store text faults
     (λ r told none calm. inr refl) (λ no_fault memory. absurd (memory refl)) (λ done. absurd cc)
+    (record { damaged = λ n d e. cc; lacking = λ n p e. cc })
 attach_refused seen (Header fault) store text faults live explained = absurd explained
 attach_refused seen (SizesDiffer db wal) store text faults live explained = absurd explained
 attach_refused seen (WalTooLong size) store text faults live explained = absurd explained
 attach_refused seen (TooLarge size) store text faults live explained = absurd explained
 attach_refused seen (GateBroken how) store text faults live explained = absurd explained
 attach_refused seen (Damaged name damage) store text faults live explained = absurd explained
+attach_refused seen (PageMissing name number) store text faults live explained = absurd explained
 attach_refused seen TxidSpent store text faults live explained = absurd explained
 attach_refused seen Sink store text faults live explained = absurd explained
 

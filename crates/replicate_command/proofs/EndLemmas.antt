@@ -7,11 +7,13 @@ use Rattle.crash_disk.specs.GoesOn.{IsGrown}
 use Rattle.crash_disk.proofs.GoesOnLemmas.{goes_on-same, goes_on-weaker}
 use Rattle.ls_base.specs.History.{History}
 use Rattle.ls_base.specs.SyncLog.{SyncLog}
-use Rattle.live_gate.specs.LiveRecord.{Database, LiveRecord, GoesOn, IfTold, IsPrefix}
+use Rattle.live_gate.specs.LiveRecord.{Asked as Asks, Attachment, Database, LiveRecord, GoesOn, IfTold, IsPrefix}
 use Rattle.live_gate.proofs.StepLemmas.{prefix_join}
 use Rattle.replica_store.specs.CarriesOn.{CarriesOn}
 use Rattle.replica_store.specs.CrashFaithful.{IsCrashFaithful, IsSettled}
+use Rattle.replica_store.specs.declared.dated_names.Dated.{Dated}
 use Rattle.replica_store.specs.Putting.{HasSyncedNames}
+use Rattle.replica_upkeep.specs.Kept.{AreFiles}
 use Rattle.replica_store.proofs.CarryLemmas.{carries_on_then}
 use Rattle.replica_store.proofs.GrowthLemmas.{longer_history_keeps}
 use Rattle.round_line.specs.declared.round.Round.{Round}
@@ -25,17 +27,21 @@ use Rattle.ls_answers.specs.declared.outcome.Why.TheVariants.{Done, NoDatabase}
 use Rattle.replicate_command.specs.Answers.{Explains}
 use Rattle.replicate_command.specs.Asked.{Asked, cut_of}
 use Rattle.replicate_command.specs.Ends.{ReplicateEnds}
+use Rattle.replicate_command.specs.Names.{MaintainedRounds, CountsPasses, count_behind}
 use Rattle.replicate_command.specs.Exact.{IsCalm, Answers, BlamesNoFile}
-use Rattle.replicate_command.specs.Later.{IsLater, ObjectsGoOn}
-use Rattle.replicate_command.specs.Promise.{Ending, Prints, AreEnough, EndsSo, KeepsFaith, LetsGo, ending_of}
+use Rattle.replica_round.specs.Later.{IsLater}
+use Rattle.replicate_command.specs.Later.{ObjectsGoOn}
+use Rattle.replicate_command.specs.Promise.{Ending, Prints, AreEnough, EndsSo, KeepsFaith, LetsGo, Whole, TellsRounds}
+use Rattle.replicate_command.specs.Promise.{ending_of}
 use Rattle.replicate_command.specs.Promise.Ending.{Finished, Unprinted, Spent, Refused}
 use Rattle.replicate_command.specs.Seen.{Seen, FaultsStay, AreAttached}
 use Rattle.replicate_command.specs.Stage.{Anything, RunsOn, GoesSo, HasStopped}
 use Rattle.replicate_command.proofs.ExplainLemmas.{joined, Meets, Closes, faults_then, objects_then, explains_since}
 use Rattle.replicate_command.proofs.ExplainLemmas.{explains_until, closes_on}
-use Rattle.replicate_command.proofs.LaterLemmas.{same_told}
+use Rattle.replicate_command.proofs.LaterLemmas.{live_weaker, same_told}
 use Rattle.replicate_command.proofs.RunLemmas.{gains_none, run_outlasts, ends_longer, ends_earlier}
-use Rattle.replicate_command.proofs.ExactLemmas.{truthful, done_then}
+use Rattle.replicate_command.proofs.ExactLemmas.{done_then}
+use Rattle.replicate_command.proofs.NamesLemmas.{files_kept}
 
 -- ---- what becomes of the replica
 
@@ -132,7 +138,8 @@ module _ (cut : ℕ) (rounds : List Round) (log : SyncLog) (old first second new
 
 module _ (opening stage closing : Seen) (why : Why) (begins : Meets opening stage)
     (ends : Meets (joined opening stage) closing)
-    (live : GoesOn opening.live opening.live_after (λ old new. IsLater old.database new.database))
+    (live : GoesOn opening.live opening.live_after
+    (λ old new. IsLater old.database new.database × (new.asked ≡ old.asked)))
     (store : disk.GoesOn opening.store opening.store_after HasSyncedNames)
     (text : opening.text_after ≡ opening.text) (faults : FaultsStay opening)
     (there : IfTold opening.live (λ r. opening.is_there ≢ false))
@@ -141,7 +148,7 @@ module _ (opening stage closing : Seen) (why : Why) (begins : Meets opening stag
   all = joined (joined opening stage) closing
 
   opens : ObjectsGoOn opening
-  opens = record { live = live; store = goes_on-weaker _ _ _ _ store (λ x y is. tt) }
+  opens = record { live = live_weaker _ _ _ _ live (λ x y both. both.0); store = goes_on-weaker _ _ _ _ store (λ x y is. tt) }
 
   all_explained : Explains all why
   all_explained =
@@ -154,8 +161,42 @@ module _ (opening stage closing : Seen) (why : Why) (begins : Meets opening stag
       (subst (λ (t : Option (List ℕ)). Prints (ending_of why) 1 stage.text t runs.rounds)
       (sym (closes.text ∙ ends.text)) runs.prints)
 
-  all_faith : KeepsFaith all (ending_of why) runs.rounds
-  all_faith old new before now is_old is_new is_before is_now log calm faithful =
+  -- what the rounds tell of the names and of the passes
+  all_tells : (ending : Ending) → Whole ending (TellsRounds stage runs.rounds)
+      → Whole ending (TellsRounds all runs.rounds)
+  all_tells Unprinted told = tt
+  all_tells Spent told = tt
+  all_tells Refused told = tt
+  all_tells Finished told = record {
+    names = λ before now is_before is_now.
+        let settled = store.told before is_before in
+        let of_stage = told.names settled.0 now (begins.store ∙ settled.1) (sym (closes.store ∙ ends.store) ∙ is_now)
+        in
+        λ dated are.
+        subst (λ (a : Asked). (later : List Dated) × MaintainedRounds a.keep a.now dated runs.rounds later
+        × AreFiles (files_after now) later) begins.asked
+        (of_stage dated (files_kept (files_after before) (files_after settled.0) dated settled.2.files are));
+    passes = λ old new is_old is_new.
+        let one = live.told old is_old in
+        let two = runs.goes_on.live.told one.0 (begins.live ∙ one.1) in
+        let three = closes.live.told two.0 (ends.live ∙ two.1) in
+        let at_new : three.0 ≡ new = same_told three.0 new (sym three.1 ∙ is_new) in
+        let last : new.asked ≡ two.0.asked = subst (λ (r : LiveRecord). r.asked ≡ two.0.asked) at_new three.2.1 in
+        let of_stage = told.passes one.0 two.0 (begins.live ∙ one.1) two.1 in
+        subst (λ (at : Option Attachment). CountsPasses at runs.rounds old new) (sym ends.attached)
+        (record {
+          count = ap (λ (a : Asks). a.passes_done) last ∙ of_stage.count
+              ∙ ap (λ (a : Asks). count_behind runs.rounds a.passes_done) one.2.1;
+          alone = of_stage.alone;
+        });
+  }
+
+  in_rounds : (old new : LiveRecord) (before now : List Event) → all.live ≡ Some old → all.live_after ≡ Some new
+      → all.store ≡ Some before → all.store_after ≡ Some now → (log : SyncLog) → new.database.chances ≡ 0
+      → IsCrashFaithful before old.database.history log
+      → EndsSo (ending_of why) (cut_of all.asked) runs.rounds log old.database new.database before now
+      × BlamesNoFile why
+  in_rounds old new before now is_old is_new is_before is_now log calm faithful =
       let cut = cut_of opening.asked in
       let one = live.told old is_old in
       let settled = store.told before is_before in
@@ -166,17 +207,25 @@ module _ (opening stage closing : Seen) (why : Why) (begins : Meets opening stag
       let at_now : end.0 ≡ now = same_told end.0 now (sym (closes.store ∙ ends.store ∙ end.1) ∙ is_now) in
       let last = subst (λ (r : LiveRecord). IsLater two.0.database r.database) at_new three.2.0 in
       let zero : two.0.database.chances ≡ 0 = omega (arith, calm, last.chances) in
-      let bound : cut ≤ opening.asked.now = omega arith in
-      let within : cut ≤ stage.asked.now = subst (λ (a : Asked). cut ≤ a.now) (sym begins.asked) bound in
       let begun = (synced_names_begin old.database.history cut before settled.0 log faithful settled.3 settled.2).0 in
       let is_settled : IsSettled settled.0 one.0.database.history log =
-      subst (λ (h : History). IsSettled settled.0 h log) (sym one.2.history.is)
-      ((longer_history_keeps old.database.history one.2.history.rest cut settled.0 settled.0 log log).1 begun) in
-      let goes = runs.faith one.0 two.0 settled.0 end.0 (begins.live ∙ one.1) two.1 (begins.store ∙ settled.1) end.1 cut
-      log within zero is_settled tt in
-      subst (λ (es : List Event). EndsSo (ending_of why) cut runs.rounds log old.database new.database before es) at_now
-      (ends_so cut runs.rounds log old.database one.0.database two.0.database new.database before settled.0 end.0 one.2
-      two.2 last settled.3 end.3 settled.2 (ending_of why) goes)
+      subst (λ (h : History). IsSettled settled.0 h log) (sym one.2.0.history.is)
+      ((longer_history_keeps old.database.history one.2.0.history.rest cut settled.0 settled.0 log log).1 begun) in
+      let goes = subst (λ (a : Asked). GoesSo (ending_of why) Anything one.0.database.history two.0.database.history
+      (cut_of a) settled.0 end.0 runs.rounds log) begins.asked
+      (runs.faith one.0 two.0 settled.0 end.0 (begins.live ∙ one.1) two.1 (begins.store ∙ settled.1) end.1 log zero
+      is_settled tt) in (
+        subst (λ (es : List Event). EndsSo (ending_of why) cut runs.rounds log old.database new.database before es)
+            at_now
+            (ends_so cut runs.rounds log old.database one.0.database two.0.database new.database before settled.0 end.0
+            one.2.0 two.2 last settled.3 end.3 settled.2 (ending_of why) goes),
+        runs.sound one.0 two.0 settled.0 end.0 (begins.live ∙ one.1) two.1 (begins.store ∙ settled.1) end.1 log zero
+            is_settled tt,
+      )
+
+  all_faith : KeepsFaith all (ending_of why) runs.rounds
+  all_faith old new before now is_old is_new is_before is_now log calm faithful =
+      (in_rounds old new before now is_old is_new is_before is_now log calm faithful).0
 
   -- A replication that went to its rounds ends as it is to end.
   pub whole_ends : LetsGo all why → (why ≡ Done → AreAttached all) → ReplicateEnds all why
@@ -184,15 +233,18 @@ module _ (opening stage closing : Seen) (why : Why) (begins : Meets opening stag
     explained = all_explained;
     exact = record {
       no_database = λ r told none calm. absurd (there r told none);
-      truthful = truthful all why runs.rounds all_explained all_faith;
+      truthful = λ old new before now is_old is_new is_before is_now log calm faithful.
+          (in_rounds old new before now is_old is_new is_before is_now log calm faithful).1;
       done = λ old new before now is_old is_new is_before is_now log calm faithful there quiet may.
           done_then all runs.rounds old new before now is_old is_new is_before is_now log calm faithful there quiet
-          may why all_explained runs.enough all_faith;
+          may why all_explained runs.enough all_faith
+          (in_rounds old new before now is_old is_new is_before is_now log calm faithful).1;
     };
     promise = record {
       ended = runs.rounds;
       enough = runs.enough;
       prints = all_prints;
+      tells = all_tells (ending_of why) runs.tells;
       faith = all_faith;
       lets_go = lets_go;
     };
@@ -216,8 +268,8 @@ pub refused_first : (seen : Seen) (why : Why) → ending_of why ≡ Refused → 
     → seen.store_after ≡ seen.store → seen.text_after ≡ seen.text → FaultsStay seen
     → ((r : LiveRecord) → seen.live ≡ Some r → seen.is_there ≡ false
     → IsCalm seen.live_faults seen.live_faults_after → Answers why NoDatabase)
-    → LetsGo seen why → (why ≡ Done → ⊥) → ReplicateEnds seen why
-refused_first seen why is_refused explained live store text faults exact lets_go never =
+    → LetsGo seen why → (why ≡ Done → ⊥) → BlamesNoFile why → ReplicateEnds seen why
+refused_first seen why is_refused explained live store text faults exact lets_go never unblamed =
     let faith : KeepsFaith seen (ending_of why) [] = λ old new before now is_old is_new is_before
     is_now log calm faithful.
     let next = live.told old is_old in
@@ -234,16 +286,17 @@ refused_first seen why is_refused explained live store text faults exact lets_go
       explained = explained;
       exact = record {
         no_database = exact;
-        truthful = truthful seen why [] explained faith;
+        truthful = λ old new before now is_old is_new is_before is_now log calm faithful. unblamed;
         done = λ old new before now is_old is_new is_before is_now log calm faithful there quiet may.
             done_then seen [] old new before now is_old is_new is_before is_now log calm faithful there quiet may why
-            explained (none_asked (ending_of why) seen.asked.rounds is_refused) faith;
+            explained (none_asked (ending_of why) seen.asked.rounds is_refused) faith unblamed;
       };
       promise = record {
         ended = [];
         enough = none_asked (ending_of why) seen.asked.rounds is_refused;
         prints = subst (λ (e : Ending). Prints e 1 seen.text seen.text_after []) (sym is_refused)
             (text ∙ gains_none seen.text);
+        tells = subst (λ (e : Ending). Whole e (TellsRounds seen [])) (sym is_refused) tt;
         faith = faith;
         lets_go = lets_go;
       };

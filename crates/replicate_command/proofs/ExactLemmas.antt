@@ -25,7 +25,6 @@ use Rattle.replicate_command.specs.Answers.{Explains}
 use Rattle.replicate_command.specs.Exact.{IsCalm, Answers, IsAllCalm, MayReplicate, BlamesNoFile}
 use Rattle.replicate_command.specs.Promise.{AreEnough, KeepsFaith, ending_of}
 use Rattle.replicate_command.specs.Seen.{Seen}
-use Rattle.replicate_command.proofs.TruthLemmas.{no_bad_header}
 
 -- ---- the header
 
@@ -54,20 +53,6 @@ records_many (round ∷ rounds) log later is =
     let more = records_many rounds is.0 later is.2 in
     omega (arith, one, more)
 
--- ---- a replica that tells the truth is never called damaged
-
-pub truthful : (seen : Seen) (why : Why) (rounds : List Round) → Explains seen why
-    → KeepsFaith seen (ending_of why) rounds
-    → IfBothTell seen.live seen.live_after seen.store seen.store_after
-    (λ old new before now. (log : SyncLog) → new.database.chances ≡ 0
-    → IsCrashFaithful before old.database.history log → BlamesNoFile why)
-truthful seen why rounds explained faith old new before now is_old is_new is_before is_now log calm faithful name
-    damage is =
-    let bad = subst (λ (w : Why). Explains seen w) is explained in
-    let kept = subst (λ (w : Why). KeepsFaith seen (ending_of w) rounds) is faith old new before now is_old is_new
-    is_before is_now log calm faithful in
-    no_bad_header (files_after now) new.database.history kept.later kept.faithful.files name damage (bad now is_now)
-
 -- ---- nothing refuses
 
 module _ (seen : Seen) (rounds : List Round) (old new : LiveRecord) (before now : List Event)
@@ -76,36 +61,35 @@ module _ (seen : Seen) (rounds : List Round) (old new : LiveRecord) (before now 
     (faithful : IsCrashFaithful before old.database.history log) (there : seen.is_there ≡ true) (quiet : IsAllCalm seen)
     (may : MayReplicate seen.asked old new log) where
   pub done_then : (why : Why) → Explains seen why → AreEnough (ending_of why) seen.asked.rounds rounds
-      → KeepsFaith seen (ending_of why) rounds → Answers why Done
-  done_then Done explained enough faith = inl refl
-  done_then Memory explained enough faith = inr refl
-  done_then NoDatabase explained enough faith =
+      → KeepsFaith seen (ending_of why) rounds → BlamesNoFile why → Answers why Done
+  done_then Done explained enough faith blames = inl refl
+  done_then Memory explained enough faith blames = inr refl
+  done_then NoDatabase explained enough faith blames =
       let both : true ≡ false = sym there ∙ explained old is_old in absurd cc
-  done_then (Header fault) explained enough faith =
+  done_then (Header fault) explained enough faith blames =
       absurd (good_header may.bytes fault may.header (explained new is_new may.bytes may.gave))
-  done_then (SizesDiffer db wal) explained enough faith =
+  done_then (SizesDiffer db wal) explained enough faith blames =
       absurd (may.one_size db wal (explained.1 old new is_old is_new calm))
-  done_then (WalTooLong size) explained enough faith =
+  done_then (WalTooLong size) explained enough faith blames =
       let given = explained new is_new may.size may.said in absurd (omega (arith, given.1, may.short))
-  done_then (TooLarge size) explained enough faith = absurd (may.small size (explained old new is_old is_new calm))
-  done_then (GateBroken how) explained enough faith = absurd ((explained new is_new).1 calm)
-  done_then (Damaged name damage) explained enough faith =
-      absurd (truthful seen (Damaged name damage) rounds explained faith old new before now is_old is_new is_before
-      is_now log calm faithful name damage refl)
-  done_then TxidSpent explained enough faith =
+  done_then (TooLarge size) explained enough faith blames = absurd (may.small size (explained old new is_old is_new calm))
+  done_then (GateBroken how) explained enough faith blames = absurd ((explained new is_new).1 calm)
+  done_then (Damaged name damage) explained enough faith blames =
+      absurd (blames.damaged name damage refl)
+  done_then TxidSpent explained enough faith blames =
       let spent = faith old new before now is_old is_new is_before is_now log calm faithful in
       let many = records_many rounds log spent.refused.ended spent.refused.records in
       absurd (omega (arith, enough, many, spent.last, may.numbers))
-  done_then LiveFault explained enough faith = absurd (quiet.live explained)
-  done_then StoreFault explained enough faith = absurd (quiet.store explained)
-  done_then SinkFault explained enough faith = absurd (quiet.sink explained)
-  done_then SkippedOutput explained enough faith = absurd explained
-  done_then SkippedReplica explained enough faith = absurd explained
-  done_then NotBuilt explained enough faith = absurd explained
-  done_then (Usage usage) explained enough faith = absurd explained
-  done_then NoReplica explained enough faith = absurd explained
-  done_then (MissingRange after) explained enough faith = absurd explained
-  done_then NoMoment explained enough faith = absurd explained
-  done_then (PageMissing name number) explained enough faith = absurd explained
-  done_then (OutputExists size) explained enough faith = absurd explained
-  done_then TargetFault explained enough faith = absurd explained
+  done_then LiveFault explained enough faith blames = absurd (quiet.live explained)
+  done_then StoreFault explained enough faith blames = absurd (quiet.store explained)
+  done_then SinkFault explained enough faith blames = absurd (quiet.sink explained)
+  done_then SkippedOutput explained enough faith blames = absurd explained
+  done_then SkippedReplica explained enough faith blames = absurd explained
+  done_then NotBuilt explained enough faith blames = absurd explained
+  done_then (Usage usage) explained enough faith blames = absurd explained
+  done_then NoReplica explained enough faith blames = absurd explained
+  done_then (MissingRange after) explained enough faith blames = absurd explained
+  done_then NoMoment explained enough faith blames = absurd explained
+  done_then (PageMissing name number) explained enough faith blames = absurd (blames.lacking name number refl)
+  done_then (OutputExists size) explained enough faith blames = absurd explained
+  done_then TargetFault explained enough faith blames = absurd explained

@@ -1,5 +1,8 @@
 -- What explains an answer at the end of a part of a replication explains it at the end of the whole.
-use Rattle.std.proofs.Common.{◌≡◌, ℕ, ◌+◌, ◌≤◌, List, length, true, Some, Err, sym, ap, subst, ◌∙◌, arith}
+use Rattle.std.proofs.Common.{◌≡◌, ℕ, ◌+◌, ◌≤◌, List, length, true, Some, Err, sym, ap, subst, ◌∙◌, inl, inr, ⊎_elim}
+use Rattle.std.proofs.Common.{arith}
+use Rattle.crash_disk.specs.declared.event.Event.{Event}
+use Rattle.crash_disk.specs.GoesOn.{IsGrown}
 use Rattle.crash_disk.proofs.GoesOnLemmas.{grown_then, goes_on-same}
 use Rattle.live_gate.specs.LiveRecord.{Database, LiveRecord, Asked, GoesOn}
 use Rattle.wal_follow.specs.declared.fault.Broken.TheVariants as found
@@ -13,8 +16,13 @@ use Rattle.ls_answers.specs.declared.outcome.Why.TheVariants.{NoReplica, Missing
 use Rattle.ls_answers.specs.declared.outcome.Why.TheVariants.{OutputExists, StoreFault, TargetFault, SinkFault, Memory}
 use Rattle.ls_answers.specs.declared.outcome.Why.TheVariants.{NoDatabase, Header, SizesDiffer, WalTooLong, TooLarge}
 use Rattle.ls_answers.specs.declared.outcome.Why.TheVariants.{GateBroken, TxidSpent, LiveFault}
-use Rattle.replicate_command.specs.Answers.{Explains, IfCalm, IfHeader, IfLength, ShowsBroken}
-use Rattle.replicate_command.specs.Later.{IsLater, ObjectsGoOn}
+use Rattle.replica_upkeep.specs.declared.answer.UpkeepStop.{UpkeepStop}
+use Rattle.replica_upkeep.specs.declared.answer.UpkeepStop.TheVariants as upkeep
+use Rattle.replica_upkeep.specs.Answers as upkeep_run
+use Rattle.replicate_command.specs.Answers.{Explains, IfCalm, IfHeader, IfLength, HadBadRun, ShowsBroken}
+use Rattle.replicate_command.specs.Asked.{Asked as Wish}
+use Rattle.replica_round.specs.Later.{IsLater}
+use Rattle.replicate_command.specs.Later.{ObjectsGoOn}
 use Rattle.replicate_command.specs.Seen.{Seen, FaultsStay}
 use Rattle.replicate_command.proofs.LaterLemmas.{later_then, told_before, rose_since, rose_until}
 
@@ -44,6 +52,7 @@ pub record Meets (first second : Seen) : Type 0 where
   pub asked : second.asked ≡ first.asked
   pub live : second.live ≡ first.live_after
   pub there : second.is_there ≡ first.is_there
+  pub attached : second.attached_after ≡ first.attached_after
   pub store : second.store ≡ first.store_after
   pub text : second.text ≡ first.text_after
   pub live_faults : second.live_faults ≡ first.live_faults_after
@@ -91,6 +100,17 @@ module _ (first second : Seen) (meets : Meets first second) (on : ObjectsGoOn fi
         is = was.is;
       }
 
+  bad_since : (refusal : UpkeepStop) (before mid now : List Event) → IsGrown before mid
+      → HadBadRun second.asked.now refusal mid now → HadBadRun first.asked.now refusal before now
+  bad_since refusal before mid now up is = record {
+    at = is.at;
+    from = grown_then before mid is.at up is.from;
+    to = is.to;
+    dated = is.dated;
+    are = is.are;
+    explained = subst (λ (a : Wish). upkeep_run.Explains is.dated a.now refusal is.at) meets.asked is.explained;
+  }
+
   -- what explains the end of the second part explains that of both
   pub explains_since : (why : Why) → Explains second why → Explains (joined first second) why
   explains_since Done is = is
@@ -101,7 +121,13 @@ module _ (first second : Seen) (meets : Meets first second) (on : ObjectsGoOn fi
   explains_since (WalTooLong size) is = is
   explains_since (TooLarge size) is = calm_since _ is
   explains_since (GateBroken how) is = is
-  explains_since (Damaged name damage) is = is
+  explains_since (Damaged name damage) is = λ before now is_before is_now.
+      let mid = on.store.told before is_before in
+      ⊎_elim inl (λ run. inr (bad_since (upkeep.Damaged name damage) before mid.0 now mid.3 run))
+      (is mid.0 now (meets.store ∙ mid.1) is_now)
+  explains_since (PageMissing name number) is = λ before now is_before is_now.
+      let mid = on.store.told before is_before in
+      bad_since (upkeep.PageMissing name number) before mid.0 now mid.3 (is mid.0 now (meets.store ∙ mid.1) is_now)
   explains_since TxidSpent is = λ before now is_before is_now.
       let mid = on.store.told before is_before in
       let spent = is mid.0 now (meets.store ∙ mid.1) is_now in
@@ -130,7 +156,6 @@ module _ (first second : Seen) (meets : Meets first second) (on : ObjectsGoOn fi
   explains_since NoReplica is = absurd is
   explains_since (MissingRange after) is = absurd is
   explains_since NoMoment is = absurd is
-  explains_since (PageMissing name number) is = absurd is
   explains_since (OutputExists size) is = absurd is
   explains_since TargetFault is = absurd is
 
@@ -207,8 +232,10 @@ module _ (first closing : Seen) (meets : Meets first closing) (closes : Closes c
         still_broken how mid.0 r mid.2.1 was.0,
         λ none. was.1 (let zero : mid.0.database.chances ≡ 0 = omega (arith, none, mid.2.0.chances) in zero),
       )
-  explains_until (Damaged name damage) is = λ events told.
-      is events (sym meets.store ∙ sym closes.store ∙ told)
+  explains_until (Damaged name damage) is = λ before now is_before is_now.
+      is before now is_before (sym meets.store ∙ sym closes.store ∙ is_now)
+  explains_until (PageMissing name number) is = λ before now is_before is_now.
+      is before now is_before (sym meets.store ∙ sym closes.store ∙ is_now)
   explains_until TxidSpent is = λ before now is_before is_now.
       is before now is_before (sym meets.store ∙ sym closes.store ∙ is_now)
   explains_until LiveFault is =
@@ -231,6 +258,5 @@ module _ (first closing : Seen) (meets : Meets first closing) (closes : Closes c
   explains_until NoReplica is = absurd is
   explains_until (MissingRange after) is = absurd is
   explains_until NoMoment is = absurd is
-  explains_until (PageMissing name number) is = absurd is
   explains_until (OutputExists size) is = absurd is
   explains_until TargetFault is = absurd is

@@ -6,26 +6,30 @@ use Rattle.crash_disk.specs.GoesOn.{IsGrown}
 use Rattle.crash_disk.specs.Output.{gains_text, GainsFront}
 use Rattle.ls_base.specs.History.{History}
 use Rattle.ls_base.specs.SyncLog.{SyncLog}
-use Rattle.live_gate.specs.LiveRecord.{LiveRecord, IfTold}
+use Rattle.live_gate.specs.LiveRecord.{LiveRecord, Attachment, IfTold}
 use Rattle.live_gate.specs.Legal.{IsLegal}
 use Rattle.round_line.specs.declared.round.Round.{Round}
 use Rattle.round_line.specs.RoundText.{round_text}
 use Rattle.replica_runs.specs.Rounds.{rounds_text}
 use Rattle.ls_answers.specs.declared.outcome.Why.{Why}
 use Rattle.ls_answers.specs.declared.outcome.Why.TheVariants.{Done}
-use Rattle.replicate_command.specs.Promise.{Ending, Prints, AreEnough, ending_of}
+use Rattle.replicate_command.specs.Promise.{Ending, Prints, AreEnough, Whole, TellsRounds, ending_of}
 use Rattle.replicate_command.specs.Promise.Ending.{Finished, Unprinted, Spent, Refused}
 use Rattle.replicate_command.specs.Seen.{Seen}
-use Rattle.replicate_command.specs.Asked.{Asked}
-use Rattle.replicate_command.specs.Later.{IsLater}
+use Rattle.replicate_command.specs.Asked.{Asked, cut_of}
+use Rattle.replicate_command.specs.Names.{MaintainsNames, CountsPasses}
+use Rattle.replicate_command.specs.Later.{ObjectsGoOn}
+use Rattle.replica_round.specs.Later.{IsLater}
 use Rattle.replicate_command.specs.Stage.{Premise, Anything, RunsOn, GoesSo}
 use Rattle.replicate_command.specs.Stop.{why_of, why_of_stop}
 use Rattle.replicate_command.specs.declared.stop.ReplicateStop.{ReplicateStop}
 use Rattle.replicate_command.specs.declared.stop.ReplicateStop.TheVariants.{NoDatabase, Header, SizesDiffer}
 use Rattle.replicate_command.specs.declared.stop.ReplicateStop.TheVariants.{WalTooLong, TooLarge, GateBroken, Damaged}
-use Rattle.replicate_command.specs.declared.stop.ReplicateStop.TheVariants.{TxidSpent, Live, Store, Sink, Memory}
+use Rattle.replicate_command.specs.declared.stop.ReplicateStop.TheVariants.{PageMissing, TxidSpent, Live, Store, Sink}
+use Rattle.replicate_command.specs.declared.stop.ReplicateStop.TheVariants.{Memory}
 use Rattle.replicate_command.proofs.LaterLemmas.{same_told, told_before}
 use Rattle.replicate_command.proofs.ExplainLemmas.{Meets, joined, explains_since, faults_then, objects_then}
+use Rattle.replicate_command.proofs.NamesLemmas.{names_then, passes_then}
 use Rattle.replicate_command.proofs.RunLemmas.{gains_more, texts_join, goes_then}
 
 -- ---- counts and texts
@@ -70,6 +74,27 @@ module _ (number : ℕ) (text mid after : Option (List ℕ)) (one : List Round)
             (round_text (number + length one + length more.earlier) more.last)) so_far more.front);
       }
 
+-- ---- what the rounds tell
+
+tells_then : (first second : Seen) → Meets first second → ObjectsGoOn first → (one two : List Round)
+    → TellsRounds first one → (ending : Ending) → Whole ending (TellsRounds second two)
+    → Whole ending (TellsRounds (joined first second) (one ++ two))
+tells_then first second meets on one two told Finished more = record {
+  names = λ before now is_before is_now.
+      let mid = on.store.told before is_before in
+      names_then first.asked one two before mid.0 now (told.names before mid.0 is_before mid.1)
+      (subst (λ (a : Asked). MaintainsNames a two mid.0 now) meets.asked
+      (more.names mid.0 now (meets.store ∙ mid.1) is_now));
+  passes = λ old new is_old is_new.
+      let mid = on.live.told old is_old in
+      passes_then second.attached_after one two old mid.0 new
+      (subst (λ (at : Option Attachment). CountsPasses at one old mid.0) (sym meets.attached)
+      (told.passes old mid.0 is_old mid.1)) (more.passes mid.0 new (meets.live ∙ mid.1) is_new);
+}
+tells_then first second meets on one two told Unprinted more = tt
+tells_then first second meets on one two told Spent more = tt
+tells_then first second meets on one two told Refused more = tt
+
 -- ---- both parts
 
 -- Behind a part that ended comes another one.
@@ -88,7 +113,9 @@ runs_on_then number few count from via to first second why meets one two = recor
       two.rounds) meets.text
       (subst (λ (n : ℕ). Prints (ending_of why) (number + n) second.text second.text_after two.rounds) (sym one.enough)
       two.prints));
-  faith = λ old new settled now is_old is_new is_settled is_now cut log below calm is_settled_to fits.
+  tells = tells_then first second meets one.goes_on one.rounds two.rounds one.tells (ending_of why) two.tells;
+  faith = λ old new settled now is_old is_new is_settled is_now log calm is_settled_to fits.
+      let cut = cut_of first.asked in
       let mid = one.goes_on.live.told old is_old in
       let at = one.goes_on.store.told settled is_settled in
       let last = two.goes_on.live.told mid.0 (meets.live ∙ mid.1) in
@@ -98,12 +125,23 @@ runs_on_then number few count from via to first second why meets one two = recor
       let behind = subst (λ (r : LiveRecord). IsLater mid.0.database r.database) at_new last.2 in
       let on = subst (λ (es : List Event). IsGrown at.0 es) at_now end.3 in
       let zero : mid.0.database.chances ≡ 0 = omega (arith, calm, behind.chances) in
-      let gone = one.faith old mid.0 settled at.0 is_old mid.1 is_settled at.1 cut log below zero is_settled_to fits in
-      let bound : cut ≤ second.asked.now = omega (arith, below, ap (λ (a : Asked). a.now) meets.asked) in
-      let goes = two.faith mid.0 new at.0 now (meets.live ∙ mid.1) is_new (meets.store ∙ at.1) is_now cut gone.ended
-      bound calm gone.run.settles gone.fits in
+      let gone = one.faith old mid.0 settled at.0 is_old mid.1 is_settled at.1 log zero is_settled_to fits in
+      let goes = subst (λ (a : Asked). GoesSo (ending_of why) to mid.0.database.history new.database.history (cut_of a)
+      at.0 now two.rounds gone.ended) meets.asked
+      (two.faith mid.0 new at.0 now (meets.live ∙ mid.1) is_new (meets.store ∙ at.1) is_now gone.ended calm
+      gone.run.settles gone.fits) in
       goes_then to old.database.history mid.0.database.history new.database.history cut settled at.0 now one.rounds log
       gone.ended at.3 on mid.2.history behind.history gone.run gone.newest (ending_of why) two.rounds goes;
+  sound = λ old new settled now is_old is_new is_settled is_now log calm is_settled_to fits.
+      let mid = one.goes_on.live.told old is_old in
+      let at = one.goes_on.store.told settled is_settled in
+      let last = two.goes_on.live.told mid.0 (meets.live ∙ mid.1) in
+      let at_new : last.0 ≡ new = same_told last.0 new (sym last.1 ∙ is_new) in
+      let behind = subst (λ (r : LiveRecord). IsLater mid.0.database r.database) at_new last.2 in
+      let zero : mid.0.database.chances ≡ 0 = omega (arith, calm, behind.chances) in
+      let gone = one.faith old mid.0 settled at.0 is_old mid.1 is_settled at.1 log zero is_settled_to fits in
+      two.sound mid.0 new at.0 now (meets.live ∙ mid.1) is_new (meets.store ∙ at.1) is_now gone.ended calm
+      gone.run.settles gone.fits;
 }
 
 -- ---- a part that was refused
@@ -116,6 +154,7 @@ never_finished (WalTooLong size) e = cc
 never_finished (TooLarge size) e = cc
 never_finished (GateBroken how) e = cc
 never_finished (Damaged name damage) e = cc
+never_finished (PageMissing name number) e = cc
 never_finished TxidSpent e = cc
 never_finished Live e = cc
 never_finished Store e = cc
@@ -128,6 +167,12 @@ enough_refused Finished never few count below rounds is = absurd (never refl)
 enough_refused Unprinted never few count below rounds is = omega (arith, below, is)
 enough_refused Spent never few count below rounds is = omega (arith, below, is)
 enough_refused Refused never few count below rounds is = omega (arith, below, is)
+
+whole_refused : (ending : Ending) → (ending ≡ Finished → ⊥) → (P : Type 0) → Whole ending P
+whole_refused Finished never P = absurd (never refl)
+whole_refused Unprinted never P = tt
+whole_refused Spent never P = tt
+whole_refused Refused never P = tt
 
 goes_refused : (ending : Ending) → (ending ≡ Finished → ⊥) → (to other : Premise) (old new : History) (cut : ℕ)
     (settled now : List Event) (rounds : List Round) (log : SyncLog)
@@ -151,9 +196,12 @@ refused_alike number few count below from to other seen stop runs =
       rounds = runs.rounds;
       enough = enough_refused ending (never_finished stop) few count below runs.rounds runs.enough;
       prints = runs.prints;
-      faith = λ old new settled now is_old is_new is_settled is_now cut log within calm is fits.
-          goes_refused ending (never_finished stop) to other old.database.history new.database.history cut settled now
-          runs.rounds log (runs.faith old new settled now is_old is_new is_settled is_now cut log within calm is fits);
+      tells = whole_refused ending (never_finished stop) _;
+      faith = λ old new settled now is_old is_new is_settled is_now log calm is fits.
+          goes_refused ending (never_finished stop) to other old.database.history new.database.history
+          (cut_of seen.asked) settled now runs.rounds log
+          (runs.faith old new settled now is_old is_new is_settled is_now log calm is fits);
+      sound = runs.sound;
     }
 
 -- a part that ended is behind every place where nothing is asked
@@ -166,9 +214,11 @@ anywhere number count from to seen runs = record {
   rounds = runs.rounds;
   enough = runs.enough;
   prints = runs.prints;
-  faith = λ old new settled now is_old is_new is_settled is_now cut log within calm is fits.
-      let gone = runs.faith old new settled now is_old is_new is_settled is_now cut log within calm is fits in
+  tells = runs.tells;
+  faith = λ old new settled now is_old is_new is_settled is_now log calm is fits.
+      let gone = runs.faith old new settled now is_old is_new is_settled is_now log calm is fits in
       record { ended = gone.ended; run = gone.run; fits = tt; newest = gone.newest };
+  sound = runs.sound;
 }
 
 -- however it ended

@@ -4,7 +4,7 @@ use Rattle.ls_base.specs.Fault.{Rose}
 use Rattle.live_gate.specs.LiveRecord.{Database, LiveRecord, Told, GoesOn}
 use Rattle.live_gate.specs.Step.{IsWriterStep, IsStepButHold, IsStepButAttached}
 use Rattle.live_gate.proofs.StepLemmas.{prefix_itself, prefix_join}
-use Rattle.replicate_command.specs.Later.{IsLater}
+use Rattle.replica_round.specs.Later.{IsLater}
 
 pub later_itself : (d : Database) → IsLater d d
 later_itself d = record { legal = λ l. l; history = prefix_itself d.history; chances = omega arith }

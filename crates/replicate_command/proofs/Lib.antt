@@ -1,10 +1,11 @@
 pub mod LaterLemmas
+pub mod NamesLemmas
 pub mod ExplainLemmas
 pub mod RunLemmas
 pub mod JoinLemmas
 pub mod RoundLemmas
-pub mod BeginLemmas
 pub mod TruthLemmas
+pub mod BeginLemmas
 pub mod ExactLemmas
 pub mod EndLemmas
 pub mod LawLemmas

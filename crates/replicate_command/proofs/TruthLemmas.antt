@@ -1,4 +1,4 @@
--- Of files that tell the truth no header is damaged, and when each answer comes.
+-- Of files that tell the truth the newest one has a good header.
 use Rattle.std.proofs.Common.{◌≡◌, ℕ, List, [], ◌∷◌, ◌++◌, Option, Some, None, refl, sym, ap, subst, ◌∙◌, ⊎_elim, arith}
 use Rattle.std.specs.Prelude.{unwrap_or}
 use Rattle.std.specs.FinMap.{get}
@@ -22,59 +22,12 @@ use Rattle.replica_store.proofs.ExtendedLemmas.{begins_with_header}
 use Rattle.replica_store.proofs.FaithLemmas.{there_with}
 use Rattle.replica_runs.specs.Newest.{newest_of, IsNewestFile}
 use Rattle.replica_runs.proofs.NewestLemmas.{first_is, listed_in}
-use Rattle.replica_round.specs.StoreSide.{HasFirstBadHeader}
-use Rattle.replicate_command.specs.Answers.{HasBadHeader}
-
-none_some : (found : Option LtxFault) (fault : LtxFault) → found ≡ None → found ≡ Some fault → ⊥
-none_some found fault none some = cc
-
-good_or_bad : (files : Files) (name : FileName) (header : LtxHeader) (damage : Damage)
-    → IsHeaderUnder files name header → IsHeaderDamage files name damage → ⊥
-good_or_bad files name header (File fault) is damaged =
-    none_some _ fault (no_header_fault (bytes_under files (path_of name)) header is.has) damaged
-good_or_bad files name header NameDiffers is damaged =
-    let same = same_header (bytes_under files (path_of name)) damaged.header header damaged.has is.has in
-    ⊎_elim (λ differs. differs (ap (λ (h : LtxHeader). h.min) same ∙ is.from_min))
-    (λ differs. differs (ap (λ (h : LtxHeader). h.max) same ∙ is.to_max)) damaged.differs
-good_or_bad files name header SizeDiffers is damaged = absurd damaged
-
--- the name behind these is one of the list
-named : (names before after : List FileName) (name : FileName) → names ≡ before ++ name ∷ after → Contains names name
-named names before after name split =
-    let has : Contains (name ∷ after) name = (0, omega arith, refl) in
-    subst (λ (list : List FileName). Contains list name) (sym split)
-    (Contains-append_right before (name ∷ after) name has)
+use Rattle.replica_round.proofs.SoundLemmas.{good_or_bad, header_under}
 
 module _ (files : Files) (history : History) (log : SyncLog) (faithful : IsFaithful files history log) where
-  header_under : (name : FileName) → IsIn files name → (header : LtxHeader) × IsHeaderUnder files name header
-  header_under name is =
-      there_with (get files (path_of name)) is.there
-      (λ bytes found.
-      let own : IsFaithfulFile history log name.min name.max bytes = faithful.each name bytes is.valid found in
-      let its : bytes_under files (path_of name) ≡ bytes
-      = ap (λ (file : Option (List ℕ)). unwrap_or file []) found in
-      let begins = begins_with_header bytes own.header own.change own.file.file in (
-        own.header,
-        record {
-          has = subst (λ (b : List ℕ). HasHeader b own.header) (sym its) begins;
-          from_min = own.file.from_min;
-          to_max = own.file.to_max;
-        },
-      ))
-
-  newest_good : (name : FileName) (damage : Damage) → IsNewestFile files name → IsHeaderDamage files name damage → ⊥
+  -- where the files tell the truth the newest one's header isn't damaged
+  pub newest_good : (name : FileName) (damage : Damage) → IsNewestFile files name → IsHeaderDamage files name damage → ⊥
   newest_good name damage is bad =
       let found = first_is is.names (newest_of is.names) name is.is.first in
-      let header = header_under name (listed_in files is.names is.listed name found.0) in
+      let header = header_under files history log faithful name (listed_in files is.names is.listed name found.0) in
       good_or_bad files name header.0 damage header.1 bad
-
-  listed_good : (name : FileName) (damage : Damage) → HasFirstBadHeader files name damage → ⊥
-  listed_good name damage bad =
-      let has = named bad.names (names_of bad.first.before) bad.first.after name bad.first.split in
-      let header = header_under name (listed_in files bad.names bad.listed name has) in
-      good_or_bad files name header.0 damage header.1 bad.first.damaged
-
-  -- where the files tell the truth no header is damaged
-  pub no_bad_header : (name : FileName) (damage : Damage) → HasBadHeader files name damage → ⊥
-  no_bad_header name damage bad =
-      ⊎_elim (λ newest. newest_good name damage newest.0 newest.1) (λ listed. listed_good name damage listed) bad

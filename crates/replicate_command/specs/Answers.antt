@@ -3,7 +3,6 @@ use Rattle.std.specs.Prelude.{◌≡◌, ℕ, ◌<◌, List, true, false, Some, 
 use Rattle.crash_disk.specs.Files.{Files, files_after}
 use Rattle.crash_disk.specs.declared.event.Event.{Event}
 use Rattle.crash_disk.specs.GoesOn.{IsGrown}
-use Rattle.crash_disk.specs.Told as disk
 use Rattle.db_page.specs.DatabaseHeader.{IsWalDatabase, IsFirstFault, page_size_field, page_size_of}
 use Rattle.ls_base.specs.declared.place.Place.{Place}
 use Rattle.ls_base.specs.Fault.{Rose}
@@ -20,13 +19,17 @@ use Rattle.replica_runs.specs.Newest.{IsNewestFile}
 use Rattle.replica_sync.specs.Answers.{last_txid}
 use Rattle.replica_sync.specs.Newest.{newest_of}
 use Rattle.replica_sync.specs.Reading.{IsBrokenBy}
-use Rattle.replica_round.specs.StoreSide.{AreFiles, HasFirstBadHeader}
+use Rattle.replica_upkeep.specs.declared.answer.UpkeepStop.{UpkeepStop}
+use Rattle.replica_upkeep.specs.declared.answer.UpkeepStop.TheVariants as upkeep
+use Rattle.replica_upkeep.specs.Answers as run
+use Rattle.replica_upkeep.specs.Kept.{AreFiles}
+use Rattle.replica_round.specs.ChangesStore.{HasFirstBadHeader}
 use Rattle.ls_answers.specs.declared.outcome.Broken.{Broken}
 use Rattle.ls_answers.specs.declared.outcome.Broken.TheVariants.{Salts, Short}
 use Rattle.ls_answers.specs.declared.outcome.Why.{Why}
 use Rattle.ls_answers.specs.declared.outcome.Why.TheVariants.{Done, NoDatabase, Header, SizesDiffer, WalTooLong}
-use Rattle.ls_answers.specs.declared.outcome.Why.TheVariants.{TooLarge, GateBroken, Damaged, TxidSpent, LiveFault}
-use Rattle.ls_answers.specs.declared.outcome.Why.TheVariants.{StoreFault, SinkFault, Memory}
+use Rattle.ls_answers.specs.declared.outcome.Why.TheVariants.{TooLarge, GateBroken, Damaged, PageMissing}
+use Rattle.ls_answers.specs.declared.outcome.Why.TheVariants.{TxidSpent, LiveFault, StoreFault, SinkFault, Memory}
 use Rattle.replicate_command.specs.Later.{WasFound}
 use Rattle.replicate_command.specs.Seen.{Seen}
 
@@ -70,6 +73,15 @@ pub record HasSpentAll (before now : List Event) : Type 0 where
   pub are : AreFiles (files_after at) dated
   pub last : newest_of dated ≡ last_txid
 
+-- At a moment of the call a run of the replica's files was due to be merged, and this was wrong with it.
+pub record HadBadRun (moment : ℕ) (refusal : UpkeepStop) (before now : List Event) : Type 0 where
+  pub at : List Event
+  pub from : IsGrown before at
+  pub to : IsGrown at now
+  pub dated : List Dated
+  pub are : AreFiles (files_after at) dated
+  pub explained : run.Explains dated moment refusal at
+
 -- what a disk that tells told and tells
 abbrev pub IfStoreTells : Seen → (List Event → List Event → Type 0) → Type 0
 IfStoreTells seen P = (before now : List Event) → seen.store ≡ Some before → seen.store_after ≡ Some now → P before now
@@ -86,7 +98,10 @@ Explains seen (TooLarge size) = IfCalm seen (IsTooLarge size)
 Explains seen (GateBroken how) =
     IfTold seen.live_after (λ r. ShowsBroken how r × (r.database.chances ≡ 0 → ⊥))
 Explains seen (Damaged name damage) =
-    disk.IfTold seen.store_after (λ events. HasBadHeader (files_after events) name damage)
+    IfStoreTells seen (λ before now. HasBadHeader (files_after now) name damage
+    ⊎ HadBadRun seen.asked.now (upkeep.Damaged name damage) before now)
+Explains seen (PageMissing name number) =
+    IfStoreTells seen (HadBadRun seen.asked.now (upkeep.PageMissing name number))
 Explains seen TxidSpent = IfStoreTells seen HasSpentAll
 Explains seen LiveFault = Rose seen.live_faults seen.live_faults_after
 Explains seen StoreFault = Rose seen.store_faults seen.store_faults_after

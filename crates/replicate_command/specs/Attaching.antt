@@ -3,7 +3,7 @@ use Rattle.std.specs.Prelude.{◌≡◌, ◌≢◌, ℕ, ◌≤◌, List, Bool, 
 use Rattle.ls_base.specs.Fault.{Rose}
 use Rattle.live_gate.specs.LiveRecord.{Told, Attachment, LiveRecord, IfTold}
 use Rattle.replicate_command.specs.Asked.{Asked}
-use Rattle.replicate_command.specs.Later.{IsLater}
+use Rattle.replica_round.specs.Later.{IsLater}
 use Rattle.replicate_command.specs.declared.stop.ReplicateStop.{ReplicateStop}
 use Rattle.replicate_command.specs.declared.stop.ReplicateStop.TheVariants.{NoDatabase, Live, Store, Memory}
 
@@ -16,6 +16,7 @@ HoldsNone (Err other) r = r.database.held ≡ None
 
 pub record AttachesBoth (result : Result (Unit {0}) ReplicateStop) (old new : LiveRecord) : Type 0 where
   pub later : IsLater old.database new.database
+  pub asked : new.asked ≡ old.asked
   pub holds : HoldsNone result new
 
 -- both are attached to what is asked for

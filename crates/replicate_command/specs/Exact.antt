@@ -12,7 +12,7 @@ use Rattle.wal_follow.specs.Answers.{FindsSizes}
 use Rattle.replica_sync.specs.Answers.{last_txid}
 use Rattle.replica_sync.specs.Faith.{IfBothTell}
 use Rattle.ls_answers.specs.declared.outcome.Why.{Why}
-use Rattle.ls_answers.specs.declared.outcome.Why.TheVariants.{Done, NoDatabase, Damaged, Memory}
+use Rattle.ls_answers.specs.declared.outcome.Why.TheVariants.{Done, NoDatabase, Damaged, PageMissing, Memory}
 use Rattle.replicate_command.specs.Answers.{IsTooLarge}
 use Rattle.replicate_command.specs.Asked.{Asked}
 use Rattle.replicate_command.specs.Later.{WasFound}
@@ -32,9 +32,10 @@ pub record IsAllCalm (seen : Seen) : Type 0 where
 abbrev pub Answers : Why → Why → Type 0
 Answers why answer = (why ≡ answer) ⊎ (why ≡ Memory)
 
--- no file is called damaged
-abbrev pub BlamesNoFile : Why → Type 0
-BlamesNoFile why = (name : FileName) (damage : Damage) → why ≡ Damaged name damage → ⊥
+-- no file is called damaged, and no page of one missing
+pub record BlamesNoFile (why : Why) : Type 0 where
+  pub damaged : (name : FileName) (damage : Damage) → why ≡ Damaged name damage → ⊥
+  pub lacking : (name : FileName) (number : ℕ) → why ≡ PageMissing name number → ⊥
 
 -- The database can be replicated: the header that it gave last is one of a database in WAL mode, its log isn't too
 -- long, at no moment of the call a log of another page size or too large a state was found, and a number is left for
@@ -50,7 +51,7 @@ pub record MayReplicate (asked : Asked) (old new : LiveRecord) (log : SyncLog) :
   pub small : (bytes : ℕ) → WasFound (IsTooLarge bytes) old.database new.database → ⊥
   pub numbers : length log + asked.rounds ≤ last_txid
 
--- Where no database is at the path, that is the answer. A replica that tells the truth is never called damaged, and
+-- Where no database is at the path, that is the answer. No file of a replica that tells the truth is blamed, and
 -- where nothing fails and the database can be replicated, the answer is Done.
 pub record ComesExactly (seen : Seen) (why : Why) : Type 0 where
   pub no_database : (r : LiveRecord) → seen.live ≡ Some r → seen.is_there ≡ false

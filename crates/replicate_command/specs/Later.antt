@@ -1,15 +1,8 @@
 -- How a database and a replica go on through a replication.
-use Rattle.std.specs.Prelude.{◌≤◌}
 use Rattle.crash_disk.specs.GoesOn as disk
-use Rattle.live_gate.specs.LiveRecord.{Database, GoesOn, IsPrefix}
-use Rattle.live_gate.specs.Legal.{IsLegal}
+use Rattle.live_gate.specs.LiveRecord.{Database, GoesOn}
+use Rattle.replica_round.specs.Later.{IsLater}
 use Rattle.replicate_command.specs.Seen.{Seen}
-
--- The database at a later moment: what was legal is so still, and neither an entry nor a coincidence went.
-pub record IsLater (old new : Database) : Type 0 where
-  pub legal : IsLegal old → IsLegal new
-  pub history : IsPrefix old.history new.history
-  pub chances : old.chances ≤ new.chances
 
 -- what was told goes on, and what wasn't stays silent; changes of the replica's folder come behind the earlier ones
 pub record ObjectsGoOn (seen : Seen) : Type 0 where

@@ -3,6 +3,7 @@ pub mod Seen
 pub mod Later
 pub mod Stop
 pub mod Answers
+pub mod Names
 pub mod Promise
 pub mod Exact
 pub mod Ends

@@ -13,7 +13,9 @@ use Rattle.replica_sync.specs.Answers.{last_txid}
 use Rattle.replica_sync.specs.Faith.{EndsSince, IfBothTell}
 use Rattle.ls_answers.specs.declared.outcome.Why.{Why}
 use Rattle.ls_answers.specs.declared.outcome.Why.TheVariants.{Done, TxidSpent, SinkFault, LiveFault, Memory}
+use Rattle.replicate_command.specs.Answers.{IfLiveTells, IfStoreTells}
 use Rattle.replicate_command.specs.Asked.{cut_of}
+use Rattle.replicate_command.specs.Names.{MaintainsNames, CountsPasses}
 use Rattle.replicate_command.specs.Seen.{Seen}
 
 -- ---- how a replication ends
@@ -89,6 +91,19 @@ KeepsFaith seen ending rounds =
     → IsCrashFaithful before old.database.history log
     → EndsSo ending (cut_of seen.asked) rounds log old.database new.database before now)
 
+-- ---- what the rounds tell
+
+-- this holds where all rounds are done
+abbrev pub Whole : Ending → Type 0 → Type 0
+Whole Finished P = P
+Whole other P = Unit {0}
+
+-- The names of the replica's files are those that the rounds make of those before, and their counts are true; so is
+-- each pass that they tell.
+pub record TellsRounds (seen : Seen) (rounds : List Round) : Type 0 where
+  pub names : IfStoreTells seen (MaintainsNames seen.asked rounds)
+  pub passes : IfLiveTells seen (CountsPasses seen.attached_after rounds)
+
 -- ---- the gate
 
 -- The hold is given up, where the live database didn't fail.
@@ -104,5 +119,6 @@ pub record ReplicatePromise (seen : Seen) (why : Why) : Type 0 where
   pub ended : List Round
   pub enough : AreEnough (ending_of why) seen.asked.rounds ended
   pub prints : Prints (ending_of why) 1 seen.text seen.text_after ended
+  pub tells : Whole (ending_of why) (TellsRounds seen ended)
   pub faith : KeepsFaith seen (ending_of why) ended
   pub lets_go : LetsGo seen why

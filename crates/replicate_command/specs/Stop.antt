@@ -19,7 +19,8 @@ use Rattle.ls_answers.specs.declared.outcome.Why.TheVariants as why
 use Rattle.replicate_command.specs.declared.stop.ReplicateStop.{ReplicateStop}
 use Rattle.replicate_command.specs.declared.stop.ReplicateStop.TheVariants.{NoDatabase, Header, SizesDiffer}
 use Rattle.replicate_command.specs.declared.stop.ReplicateStop.TheVariants.{WalTooLong, TooLarge, GateBroken, Damaged}
-use Rattle.replicate_command.specs.declared.stop.ReplicateStop.TheVariants.{TxidSpent, Live, Store, Sink, Memory}
+use Rattle.replicate_command.specs.declared.stop.ReplicateStop.TheVariants.{PageMissing, TxidSpent, Live, Store, Sink}
+use Rattle.replicate_command.specs.declared.stop.ReplicateStop.TheVariants.{Memory}
 
 -- how the gate was broken, in the words of the answer
 abbrev pub broken_of : Found → Broken
@@ -42,6 +43,7 @@ stop_of_round (round.Follow fault) = stop_of_follow fault
 stop_of_round round.TxidSpent = TxidSpent
 stop_of_round (round.Store fault) = Store
 stop_of_round (round.Damaged name damage) = Damaged name damage
+stop_of_round (round.PageMissing name number) = PageMissing name number
 stop_of_round round.Memory = Memory
 
 -- the stop that an error of the replica is
@@ -68,6 +70,7 @@ why_of_stop (WalTooLong size) = why.WalTooLong size
 why_of_stop (TooLarge size) = why.TooLarge size
 why_of_stop (GateBroken how) = why.GateBroken how
 why_of_stop (Damaged name damage) = why.Damaged name damage
+why_of_stop (PageMissing name number) = why.PageMissing name number
 why_of_stop TxidSpent = why.TxidSpent
 why_of_stop Live = why.LiveFault
 why_of_stop Store = why.StoreFault

@@ -33,8 +33,10 @@ pub enum ReplicateStop {
     TooLarge(u64),
     /// Someone didn't keep to the gate.
     GateBroken(Broken),
-    /// The header of this file is damaged.
+    /// This file is damaged: its header, or it is one of a run that was to be merged.
     Damaged(FileName, Damage),
+    /// The first file of a run that doesn't fit what those before it make, and the first page that is missing there.
+    PageMissing(FileName, u32),
     /// A file is to be stored, and no transaction number is left for it.
     TxidSpent,
     /// The live database failed.
@@ -60,6 +62,7 @@ impl ReplicateStop {
             ReplicateStop::TooLarge(size) => Why::TooLarge(*size),
             ReplicateStop::GateBroken(how) => Why::GateBroken(*how),
             ReplicateStop::Damaged(name, damage) => Why::Damaged(*name, *damage),
+            ReplicateStop::PageMissing(name, number) => Why::PageMissing(*name, *number),
             ReplicateStop::TxidSpent => Why::TxidSpent,
             ReplicateStop::Live => Why::LiveFault,
             ReplicateStop::Store => Why::StoreFault,
@@ -104,6 +107,7 @@ impl From<RoundStop> for ReplicateStop {
             RoundStop::TxidSpent => ReplicateStop::TxidSpent,
             RoundStop::Store(_) => ReplicateStop::Store,
             RoundStop::Damaged(name, damage) => ReplicateStop::Damaged(name, damage),
+            RoundStop::PageMissing(name, number) => ReplicateStop::PageMissing(name, number),
             RoundStop::Memory => ReplicateStop::Memory,
         }
     }

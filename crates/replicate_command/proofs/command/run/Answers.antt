@@ -7,7 +7,7 @@ use Rattle.replica_round.proofs.ResultLemmas.{err_of}
 use Rattle.ls_answers.specs.declared.outcome.Why.TheVariants.{StoreFault}
 use Rattle.replicate_command.specs.Asked.{asked_by}
 use Rattle.replicate_command.specs.Ends.{ReplicateEnds}
-use Rattle.replicate_command.specs.Later.{IsLater}
+use Rattle.replica_round.specs.Later.{IsLater}
 use Rattle.replicate_command.specs.Seen.{Seen, seen_of}
 use Rattle.replicate_command.specs.Stage.{stage_of}
 use Rattle.replicate_command.specs.Stop.{why_of}
@@ -55,7 +55,8 @@ returns-in_err-settle g c =
       sink = omega arith;
     })
     (λ r told none calm. absurd (c.in_ok-attach.ensures.cause.explained r told none))
-    (λ no_fault memory calm r told. (told_before seen.live seen.live_after _ live r told).2.holds) (λ done. absurd cc))
+    (λ no_fault memory calm r told. (told_before seen.live seen.live_after _ live r told).2.holds) (λ done. absurd cc)
+    (record { damaged = λ n d e. cc; lacking = λ n p e. cc }))
 
 pub returns : goal.returns
 returns g c =
@@ -115,6 +116,7 @@ returns g c =
       asked = refl;
       live = refl;
       there = ap (λ (is_there : List ℕ → Bool). is_there asked.db) c.in_ok-attach.ensures.there;
+      attached = c.under_gate-ended.ensures.keeps.attached;
       store = refl;
       text = refl;
       live_faults = refl;
@@ -125,15 +127,18 @@ returns g c =
       asked = refl;
       live = refl;
       there = refl;
+      attached = c.leave.ensures.keeps.attached;
       store = refl;
       text = refl;
       live_faults = refl;
       store_faults = refl;
       sink_faults = refl;
     } in
-    let live : GoesOn opening.live opening.live_after (λ old new. IsLater old.database new.database) =
-    subst (λ (t : Told). GoesOn opening.live t (λ old new. IsLater old.database new.database)) begun
-    (live_weaker _ _ _ _ c.in_ok-attach.ensures.live (λ x y both. both.later)) in
+    let live : GoesOn opening.live opening.live_after
+    (λ old new. IsLater old.database new.database × (new.asked ≡ old.asked)) =
+    subst (λ (t : Told). GoesOn opening.live t
+    (λ old new. IsLater old.database new.database × (new.asked ≡ old.asked))) begun
+    (live_weaker _ _ _ _ c.in_ok-attach.ensures.live (λ x y both. (both.later, both.asked))) in
     let store : disk.GoesOn opening.store opening.store_after HasSyncedNames =
     subst (λ (t : DiskTold). disk.GoesOn t opening.store_after HasSyncedNames) store_begun c.in_ok-settle.ensures.ok in
     let closes : Closes closing = record {

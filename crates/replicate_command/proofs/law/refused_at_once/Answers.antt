@@ -11,3 +11,4 @@ returns g c = λ asked live store out.
     refused_first seen Memory refl tt (live_itself seen.live _ (λ r. later_itself r.database)) refl refl
     (record { live = omega arith; store = omega arith; sink = omega arith }) (λ r told none calm. inr refl)
     (λ live_fault memory. absurd (memory refl)) (λ done. absurd cc)
+    (record { damaged = λ n d e. cc; lacking = λ n p e. cc })

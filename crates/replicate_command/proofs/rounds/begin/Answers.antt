@@ -5,7 +5,8 @@ use Rattle.replicate_command.specs.Stage.{RunsOn, Anything, IsAtResult, silent_s
 use Rattle.replicate_command.specs.Stop.{stop_of_store, why_of}
 use Rattle.replicate_command.specs.declared.stop.ReplicateStop.{ReplicateStop}
 use Rattle.replicate_command.specs.declared.stop.ReplicateStop.TheVariants.{Live}
-use Rattle.replicate_command.proofs.BeginLemmas.{not_yet, refused_yet, at_newest, explains_newest, refusal_of_store}
+use Rattle.replicate_command.proofs.BeginLemmas.{not_yet, refused_yet, at_newest, explains_newest, newest_unblamed}
+use Rattle.replicate_command.proofs.BeginLemmas.{refusal_of_store}
 use Rattle.replicate_command.proofs.LaterLemmas.{later_hold, live_weaker, told_before}
 use Rattle.replicate_command.proofs.rounds.begin.Goals as goal
 
@@ -18,12 +19,15 @@ returns-in_err-enter-clause-runs g c = λ asked text sink_faults.
     (refused_yet 1 Anything (IsAtResult (Err Live)) seen Live refl
     (record {
       live = live_weaker _ _ _ _ c.in_err-enter.ensures.told
-          (λ x y enters. later_hold x.database y.database enters.step);
+          (λ x y enters. (later_hold x.database y.database enters.step, enters.asked));
       store = refl;
       text = refl;
       faults = record { live = c.in_err-enter.ensures.cause.later; store = omega arith; sink = omega arith };
     })
-    (c.in_err-enter.ensures.cause.rose refl))
+    (c.in_err-enter.ensures.cause.rose refl) (λ history log settled is told. record {
+      damaged = λ n d e. cc;
+      lacking = λ n p e. cc;
+    }))
 
 pub returns-in_err-line-clause-runs : goal.returns-in_err-line-clause-runs
 returns-in_err-line-clause-runs g c = λ asked text sink_faults.
@@ -36,7 +40,7 @@ returns-in_err-line-clause-runs g c = λ asked text sink_faults.
     (refused_yet 1 Anything (IsAtResult (Err stop)) seen stop (refusal_of_store fault)
     (record {
       live = live_weaker _ _ _ _ c.in_ok-enter.ensures.told
-          (λ x y enters. later_hold x.database y.database enters.step);
+          (λ x y enters. (later_hold x.database y.database enters.step, enters.asked));
       store = c.in_err-line.ensures.unchanged;
       text = refl;
       faults = record {
@@ -46,7 +50,9 @@ returns-in_err-line-clause-runs g c = λ asked text sink_faults.
       };
     })
     (explains_newest seen fault c.in_err-line.ensures.explained c.in_err-line.ensures.unchanged
-    c.in_err-line.ensures.cause))
+    c.in_err-line.ensures.cause)
+    (λ history log settled is told. newest_unblamed fault (g.S.Disk.told c.args.store.now)
+    c.in_err-line.ensures.explained history log settled is told))
 
 pub returns-clause-runs : goal.returns-clause-runs
 returns-clause-runs g c = λ asked text sink_faults.
@@ -55,7 +61,7 @@ returns-clause-runs g c = λ asked text sink_faults.
     not_yet 1 Anything (IsAtResult (Ok c.start.result)) seen
     (record {
       live = live_weaker _ _ _ _ c.in_ok-enter.ensures.told
-          (λ x y enters. later_hold x.database y.database enters.step);
+          (λ x y enters. (later_hold x.database y.database enters.step, enters.asked));
       store = c.in_ok-line.ensures.unchanged;
       text = refl;
       faults = record {

@@ -19,7 +19,7 @@ loop-before-init g c =
     record {
       runs = not_yet 1 (IsAt c.args.follower.now.place) (IsAt c.args.follower.now.place) seen
           (record {
-            live = live_itself seen.live _ (λ r. later_itself r.database);
+            live = live_itself seen.live _ (λ r. (later_itself r.database, refl));
             store = refl;
             text = refl;
             faults = record { live = omega arith; store = omega arith; sink = omega arith };
@@ -48,6 +48,7 @@ loop-before-preserved g c =
       asked = refl;
       live = refl;
       there = ap (λ (is_there : List ℕ → Bool). is_there asked.db) so_far.keeps.there;
+      attached = next.keeps.attached;
       store = refl;
       text = refl;
       live_faults = refl;
@@ -87,6 +88,7 @@ returns-in_err-one_round-clause-runs g c =
       asked = refl;
       live = refl;
       there = ap (λ (is_there : List ℕ → Bool). is_there asked.db) so_far.keeps.there;
+      attached = c.in_err-one_round.ensures.keeps.attached;
       store = refl;
       text = refl;
       live_faults = refl;

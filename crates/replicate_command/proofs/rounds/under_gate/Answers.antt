@@ -45,6 +45,7 @@ returns-clause-runs g c =
       asked = refl;
       live = refl;
       there = ap (λ (is_there : List ℕ → Bool). is_there asked.db) c.in_ok-follower.ensures.keeps.there;
+      attached = c.rounds.ensures.keeps.attached;
       store = refl;
       text = refl;
       live_faults = refl;
