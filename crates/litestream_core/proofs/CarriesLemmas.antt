@@ -61,10 +61,9 @@ module _ {L S T O : Type 0} (kinds : Kinds L S T O) (before after : Objects L S 
   -- a replication
   pub ends_replication : (command : Command) (asked : Asked) → Some asked ≡ replication_in now command
       → Replicating kinds before after why asked → Ends kinds before after why now command
-  ends_replication (Replicate db replica rounds keep false) asked is ends =
-      let same : asked ≡ replication_for db replica rounds keep false now = cc in
+  ends_replication (Replicate db replica rounds keep at_rest) asked is ends =
+      let same : asked ≡ replication_for db replica rounds keep at_rest now = cc in
       subst (Replicating kinds before after why) same ends
-  ends_replication (Replicate db replica rounds keep true) asked is ends = absurd cc
   ends_replication (Restore output replica target skip_output skip_replica) asked is ends = absurd cc
   ends_replication (Ltx replica) asked is ends = absurd cc
   ends_replication (Demo seed rounds) asked is ends = absurd cc
@@ -73,9 +72,7 @@ module _ {L S T O : Type 0} (kinds : Kinds L S T O) (at : Objects L S T O) (now 
   -- another command
   pub ends_unbuilt : (command : Command) → None ≡ request_in command → None ≡ listed_in command
       → None ≡ replication_in now command → Ends kinds at at NotBuilt now command
-  ends_unbuilt (Replicate db replica rounds keep true) no_restore no_listing no_replication =
-      record { answer = inl refl; untouched = refl }
-  ends_unbuilt (Replicate db replica rounds keep false) no_restore no_listing no_replication = absurd cc
+  ends_unbuilt (Replicate db replica rounds keep at_rest) no_restore no_listing no_replication = absurd cc
   ends_unbuilt (Demo seed rounds) no_restore no_listing no_replication = record { answer = inl refl; untouched = refl }
   ends_unbuilt (Ltx replica) no_restore no_listing no_replication = absurd cc
   ends_unbuilt (Restore output replica target skip_output skip_replica) no_restore no_listing no_replication = absurd cc
@@ -83,9 +80,8 @@ module _ {L S T O : Type 0} (kinds : Kinds L S T O) (at : Objects L S T O) (now 
   -- want of memory for the command's texts
   ends_early : Laws → RefusesAtOnce kinds.live kinds.store kinds.out → (command : Command)
       → Ends kinds at at Memory now command
-  ends_early laws at_once (Replicate db replica rounds keep true) = record { answer = inr refl; untouched = refl }
-  ends_early laws at_once (Replicate db replica rounds keep false) = record {
-    ends = at_once (replication_for db replica rounds keep false now) at.live at.store at.out;
+  ends_early laws at_once (Replicate db replica rounds keep at_rest) = record {
+    ends = at_once (replication_for db replica rounds keep at_rest now) at.live at.store at.out;
     target = refl;
   }
   ends_early laws at_once (Demo seed rounds) = record { answer = inr refl; untouched = refl }

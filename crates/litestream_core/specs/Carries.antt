@@ -1,5 +1,5 @@
 -- How each command ends.
-use Rattle.std.specs.Prelude.{◌≡◌, ℕ, List, true, false, Option, Result, Ok, Err, ◌⊎◌}
+use Rattle.std.specs.Prelude.{◌≡◌, ℕ, List, Option, Result, Ok, Err, ◌⊎◌}
 use Rattle.ls_words.specs.declared.command.Command.{Command}
 use Rattle.ls_words.specs.declared.command.Command.TheVariants.{Replicate, Restore, Ltx, Demo}
 use Rattle.ls_words.specs.declared.usage.Usage.{Usage as BadWord}
@@ -60,8 +60,8 @@ module _ {L S T O : Type 0} (kinds : Kinds L S T O) (before after : Objects L S 
   Ends now (Restore output replica target if_db_not_exists if_replica_exists) =
       Restoring (request_for output replica target if_db_not_exists if_replica_exists)
   Ends now (Ltx replica) = Listing replica
-  Ends now (Replicate db replica rounds keep false) = Replicating (replication_for db replica rounds keep false now)
-  Ends now (Replicate db replica rounds keep true) = Refuses NotBuilt before after why
+  Ends now (Replicate db replica rounds keep at_rest) =
+      Replicating (replication_for db replica rounds keep at_rest now)
   Ends now (Demo seed rounds) = Refuses NotBuilt before after why
 
   -- How the words are carried out: by their command, and with their fault where they are none.

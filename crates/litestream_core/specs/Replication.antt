@@ -1,5 +1,5 @@
 -- What the words ask of a replication.
-use Rattle.std.specs.Prelude.{ℕ, List, Bool, true, false, Option, Some, None}
+use Rattle.std.specs.Prelude.{ℕ, List, Bool, Option, Some, None}
 use Rattle.ls_words.specs.declared.command.Command.{Command}
 use Rattle.ls_words.specs.declared.command.Command.TheVariants.{Replicate, Restore, Ltx, Demo}
 use Rattle.replicate_command.specs.Asked.{Asked}
@@ -15,11 +15,10 @@ replication_for db replica rounds keep at_rest now = record {
   now = now;
 }
 
--- the replication that a command is at that moment, if it is one beside a writer
+-- the replication that a command is at that moment, if it is one
 abbrev pub replication_in : ℕ → Command → Option Asked
-replication_in now (Replicate db replica rounds keep false) =
-    Some (replication_for db replica rounds keep false now)
-replication_in now (Replicate db replica rounds keep true) = None
+replication_in now (Replicate db replica rounds keep at_rest) =
+    Some (replication_for db replica rounds keep at_rest now)
 replication_in now (Restore output replica target if_db_not_exists if_replica_exists) = None
 replication_in now (Ltx replica) = None
 replication_in now (Demo seed rounds) = None

@@ -127,9 +127,10 @@ fn carry_out<L: Live, S: Disk, T: Disk, O: Out>(
 /// Carries out the command that the words are, answers how it ended, and says to `err` why it was refused.
 ///
 /// `replicate` stores in the replica's folder what changed in the database since the newest file there, in so many
-/// rounds, and prints a line to `out` for each. `live` is attached to the database and `store` to the replica's
-/// folder. All files get the one moment `now`, in ms since 1970-01-01T00:00:00Z, or that of the newest file where it
-/// is later.
+/// rounds, and prints a line to `out` for each. Each round also merges the files that are due, and drops those older
+/// than the words retain, as far as no transaction is lost that is to stay; with `-at-rest` it empties a log of 1000
+/// frames or more into the database file. `live` is attached to the database and `store` to the replica's folder. All
+/// files get the one moment `now`, in ms since 1970-01-01T00:00:00Z, or that of the newest file where it is later.
 ///
 /// `restore` writes the database as of a transaction from the replica's files: as of the one that the words
 /// name, or the newest, or the last that was retained at or before a moment. It takes the chain of files that
@@ -142,8 +143,8 @@ fn carry_out<L: Live, S: Disk, T: Disk, O: Out>(
 /// `ltx` prints the listing of the replica's files to `out`. `store` is attached to the replica's folder, and no
 /// file is changed.
 ///
-/// The other commands, and `replicate -at-rest`, aren't built yet, and are refused as such. A refusal puts one line
-/// to `err`, with what was refused and where; a fault of `err` changes no answer.
+/// `demo` isn't built yet, and is refused as such. A refusal puts one line to `err`, with what was refused and where; a
+/// fault of `err` changes no answer.
 pub fn litestream<L: Live, S: Disk, T: Disk, O: Out>(
     alloc: Global,
     words: &Words,

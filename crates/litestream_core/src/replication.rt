@@ -7,7 +7,7 @@ ghost use Rattle.litestream_core.specs.Replication.{replication_in};
 use ls_words::Command;
 use replicate_command::Request;
 
-/// The replication that the command is, beside a writer that goes on. `None` exactly where it is another command.
+/// The replication that the command is. `None` exactly where it is another command.
 pub fn replication_in(command: &Command) -> Option<Request<'_>>
     ensures { (now : ℕ) → option_map (λ request. asked_by request now) result ≡ replication_in now command.now }
 {
@@ -16,7 +16,7 @@ pub fn replication_in(command: &Command) -> Option<Request<'_>>
         replica,
         rounds,
         keep,
-        at_rest: false,
+        at_rest,
     } = command
     else {
         return None;
@@ -26,6 +26,6 @@ pub fn replication_in(command: &Command) -> Option<Request<'_>>
         replica: replica.as_str(),
         rounds: *rounds,
         keep: *keep,
-        at_rest: false,
+        at_rest: *at_rest,
     })
 }
