@@ -26,7 +26,7 @@ except ImportError:
     sys.exit(0)
 
 ROOT = os.path.dirname(os.path.dirname(os.path.abspath(__file__)))
-LINE = re.compile(r"round 1 (same|piece|whole) (\S+) passed 0 merged 0 dropped 0 lost 0\n")
+LINE = re.compile(r"round 1 (same|piece|whole) (\S+) passed 0 merged \d+ dropped 0 lost 0\n")
 
 # What the application does before each transaction. The database grows at the third and shrinks at the last.
 TRANSACTIONS = [

@@ -1,5 +1,5 @@
 -- How a replication ends.
-use Rattle.std.proofs.Common.{◌≡◌, ◌≢◌, ℕ, ◌≤◌, List, [], length, false, Option, Some, refl, sym, ap, subst, ◌∙◌, arith}
+use Rattle.std.proofs.Common.{◌≡◌, ◌≢◌, ℕ, List, [], length, false, Option, Some, refl, sym, ap, subst, ◌∙◌, arith}
 use Rattle.crash_disk.specs.declared.event.Event.{Event}
 use Rattle.crash_disk.specs.Files.{files_after}
 use Rattle.crash_disk.specs.GoesOn as disk
@@ -21,7 +21,7 @@ use Rattle.replica_runs.specs.Keeping.{KeepsReplica}
 use Rattle.replica_runs.specs.Rounds.{HasRun, HasReplicated, WasRefused}
 use Rattle.replica_runs.proofs.RoundLemmas.{runs_are_refused_at_once}
 use Rattle.replica_runs.proofs.RunLemmas.{carried_on_extends, carried_on_keeps, new_ones_stay, synced_names_begin}
-use Rattle.replica_sync.specs.Faith.{EndsSince, IfBothTell}
+use Rattle.replica_sync.specs.Faith.{EndsSince}
 use Rattle.ls_answers.specs.declared.outcome.Why.{Why}
 use Rattle.ls_answers.specs.declared.outcome.Why.TheVariants.{Done, NoDatabase}
 use Rattle.replicate_command.specs.Answers.{Explains}

@@ -1,8 +1,7 @@
 -- When a replication is Done.
-use Rattle.std.proofs.Common.{◌≡◌, ℕ, ◌+◌, ◌<◌, ◌≤◌, List, [], ◌∷◌, ◌++◌, length, Bool, true, false, Option, Some, None}
+use Rattle.std.proofs.Common.{◌≡◌, ℕ, ◌+◌, ◌≤◌, List, [], ◌∷◌, length, true, false, Option, Some, None}
 use Rattle.std.proofs.Common.{refl, sym, ap, subst, ◌∙◌, length-append, inl, inr, arith}
 use Rattle.crash_disk.specs.declared.event.Event.{Event}
-use Rattle.crash_disk.specs.Files.{files_after}
 use Rattle.db_page.specs.DatabaseHeader.{IsWalDatabase, IsFirstFault, page_size_of}
 use Rattle.ls_base.specs.PageSize.{IsPageSize}
 use Rattle.db_page.specs.declared.fault.HeaderFault.{HeaderFault}
@@ -14,7 +13,6 @@ use Rattle.replica_store.specs.CrashFaithful.{IsCrashFaithful}
 use Rattle.round_line.specs.declared.round.Round.{Round}
 use Rattle.round_line.specs.RoundText.{name_in}
 use Rattle.replica_runs.specs.Rounds.{AddsLineOf, RecordsRounds}
-use Rattle.replica_sync.specs.Faith.{IfBothTell}
 use Rattle.ls_answers.specs.declared.outcome.Why.{Why}
 use Rattle.ls_answers.specs.declared.outcome.Why.TheVariants.{Done, SkippedOutput, SkippedReplica, NotBuilt, Usage}
 use Rattle.ls_answers.specs.declared.outcome.Why.TheVariants.{NoReplica, MissingRange, NoMoment, Damaged, PageMissing}
@@ -22,7 +20,7 @@ use Rattle.ls_answers.specs.declared.outcome.Why.TheVariants.{OutputExists, Stor
 use Rattle.ls_answers.specs.declared.outcome.Why.TheVariants.{NoDatabase, Header, SizesDiffer, WalTooLong, TooLarge}
 use Rattle.ls_answers.specs.declared.outcome.Why.TheVariants.{GateBroken, TxidSpent, LiveFault}
 use Rattle.replicate_command.specs.Answers.{Explains}
-use Rattle.replicate_command.specs.Exact.{IsCalm, Answers, IsAllCalm, MayReplicate, BlamesNoFile}
+use Rattle.replicate_command.specs.Exact.{Answers, IsAllCalm, MayReplicate, BlamesNoFile}
 use Rattle.replicate_command.specs.Promise.{AreEnough, KeepsFaith, ending_of}
 use Rattle.replicate_command.specs.Seen.{Seen}
 

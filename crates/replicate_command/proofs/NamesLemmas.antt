@@ -1,6 +1,6 @@
 -- The names of a replica's files, and the passes, through the rounds of a replication.
-use Rattle.std.proofs.Common.{◌≡◌, ℕ, ◌+◌, List, [], ◌∷◌, ◌++◌, Bool, true, false, Option, Some, Ok, refl, sym, ap}
-use Rattle.std.proofs.Common.{subst, ◌∙◌, inl, inr, arith}
+use Rattle.std.proofs.Common.{◌≡◌, ℕ, ◌+◌, List, [], ◌∷◌, ◌++◌, Bool, true, false, Option, Ok, refl, sym, ap}
+use Rattle.std.proofs.Common.{subst, ◌∙◌, inl, inr}
 use Rattle.std.specs.Prelude.{if◌then◌else◌, IsSome}
 use Rattle.std.specs.FinMap.{get}
 use Rattle.std.specs.List.{AllByRecursion}

@@ -1,6 +1,6 @@
 -- A round and its line are a part of a replication.
 use Rattle.std.proofs.Common.{◌≡◌, ℕ, ◌+◌, ◌≤◌, List, [], ◌∷◌, length, Option, Some, None, Result, Ok, Err, refl, sym}
-use Rattle.std.proofs.Common.{ap, subst, ◌∙◌, append-nil, inl, inr, ⊎_elim, Bool, true, false, arith}
+use Rattle.std.proofs.Common.{ap, subst, ◌∙◌, append-nil, inl, inr, Bool, arith}
 use Rattle.std.specs.Prelude.{◌⊎◌}
 use Rattle.crash_disk.specs.declared.event.Event.{Event}
 use Rattle.crash_disk.specs.GoesOn as disk
@@ -48,12 +48,11 @@ use Rattle.replicate_command.specs.Answers.{Explains, IfCalm, HasBadHeader, HadB
 use Rattle.replicate_command.specs.Asked.{cut_of}
 use Rattle.replicate_command.specs.Exact.{BlamesNoFile}
 use Rattle.replicate_command.specs.Later.{ObjectsGoOn}
-use Rattle.replicate_command.specs.Promise.{Ending, Prints, AreEnough, Whole, TellsRounds, ending_of}
-use Rattle.replicate_command.specs.Promise.Ending.{Finished, Unprinted, Spent, Refused}
+use Rattle.replicate_command.specs.Promise.{Ending, Prints, AreEnough, Whole, ending_of}
 use Rattle.replicate_command.specs.Seen.{Seen, FaultsStay}
 use Rattle.replicate_command.specs.Stage.{Premise, IsAt, RunsOn, GoesSo, HasGoneOn, HasStopped}
 use Rattle.replicate_command.specs.Stop.{stop_of_round, why_of_stop, broken_of}
-use Rattle.replicate_command.proofs.LaterLemmas.{later_itself, later_hold, live_weaker, same_told, never_told}
+use Rattle.replicate_command.proofs.LaterLemmas.{later_itself, live_weaker, same_told, never_told}
 use Rattle.replicate_command.proofs.LaterLemmas.{told_before}
 use Rattle.replicate_command.proofs.NamesLemmas.{names_of_round, passes_of_round}
 use Rattle.replicate_command.proofs.RunLemmas.{gains_none, run_begins, run_outlasts}
