@@ -4,9 +4,11 @@ use Rattle.std.proofs.Common.{arith}
 use Rattle.std.specs.Prelude.{◌≢◌, IsOk, IsErr}
 use Rattle.crash_disk.specs.declared.fault.DiskFault.{DiskFault}
 use Rattle.ls_base.specs.declared.place.Place.{Place}
+use Rattle.ls_base.specs.declared.place.Place.TheVariants.{Rest}
 use Rattle.ls_base.specs.Fault.{HasCause}
 use Rattle.ls_base.specs.PageSize.{lock_page}
 use Rattle.live_gate.specs.LiveRecord.{Asked, LiveRecord, Told, GoesOn, IfTold}
+use Rattle.live_gate.specs.Step.{IsWriterStep}
 use Rattle.live_gate.proofs.StepLemmas.{step_itself, step_join}
 use Rattle.ltx_format.specs.declared.header.LtxHeader.{LtxHeader}
 use Rattle.ltx_format.specs.LtxFormat.{IsStored}
@@ -20,10 +22,12 @@ use Rattle.wal_follow.specs.declared.following.Following.{Following}
 use Rattle.wal_follow.specs.Following.{Fits, is_in_log}
 use Rattle.wal_follow.specs.Calls.{GivesWanted, Confirms, IsPageAnswer, IsConfirmAnswer, IsAnswerToSalts}
 use Rattle.wal_follow.specs.Calls.{FollowHasCause, target_of, KeepsPasses}
+use Rattle.wal_follow.proofs.ConfirmLemmas.{confirms_rest}
 use Rattle.replica_sync.specs.declared.answer.SyncFault.{SyncFault}
 use Rattle.replica_sync.specs.declared.answer.SyncFault.TheVariants.{Follow, TxidSpent, Store, Memory as want}
 use Rattle.replica_sync.specs.Answers.{HasCauses}
-use Rattle.replica_sync.specs.Reading.{MovesOn, ReadsFound, ReadsPage, IsReadFault, IsStoreFault, IsBrokenBy}
+use Rattle.replica_sync.specs.Reading.{MovesOn, ReadsFound, ReadsPage, ConfirmsFound, IsReadFault, IsStoreFault}
+use Rattle.replica_sync.specs.Reading.{IsBrokenBy}
 
 abbrev Done : Type 0
 Done = Result (Unit {0}) SyncFault
@@ -250,6 +254,26 @@ module _ (f : Following) (found : Found) (old new : LiveRecord) where
     passes = confirms.passes;
   }
 
+  pub confirms_log : Confirms f (target_of found) (Ok tt) old new → ConfirmsFound f (target_of found) old new
+  confirms_log confirms = record { mid = old; before = step_itself old.database; confirms = confirms }
+
+  pub confirms_later : (first : LiveRecord) → IsWriterStep first.database old.database
+      → ConfirmsFound f (target_of found) old new → ConfirmsFound f (target_of found) first new
+  confirms_later first step is = record {
+    mid = is.mid;
+    before = step_join first.database old.database is.mid.database step is.before;
+    confirms = is.confirms;
+  }
+
+-- a place at rest has no salts
+pub confirms_nothing : (f : Following) (found : Found) (r : LiveRecord) (sum : ℕ) → found.place ≡ Rest sum
+    → Fits f r.database → ConfirmsFound f (target_of found) r r
+confirms_nothing f found r sum is fits = record {
+  mid = r;
+  before = step_itself r.database;
+  confirms = confirms_rest f (target_of found) r r (step_itself r.database) fits (refl, refl) sum is;
+}
+
 -- nothing was asked
 pub nothing_read : (f : Following) (place : Place) (r : LiveRecord) → Fits f r.database
     → ReadsFound f place (Ok tt) r r
@@ -277,6 +301,20 @@ live_now None new P A Q goes was implies r told = absurd (none_told r (sym (goes
 live_now (Some before) new P A Q goes was implies r told =
     let went = goes.told before refl in
     subst Q (one_told went.0 r (sym went.1 ∙ told)) (implies before went.0 (was before refl) went.2)
+
+-- what holds of one call in two ways
+pub goes_with : (old new : Told) (P Q R : LiveRecord → LiveRecord → Type 0) → GoesOn old new P → GoesOn old new Q
+    → ((r after : LiveRecord) → P r after → Q r after → R r after) → GoesOn old new R
+goes_with old new P Q R first second joins = record {
+  told = λ r told.
+      let went = first.told r told in
+      let also = second.told r told in (
+        went.0,
+        went.1,
+        joins r went.0 went.2 (subst (Q r) (one_told also.0 went.0 (sym also.1 ∙ went.1)) also.2),
+      );
+  silent = first.silent;
+}
 
 -- what holds of the record now holds beside the steps that led to it
 pub with_now : (old new : Told) (P R : LiveRecord → LiveRecord → Type 0) (Q : LiveRecord → Type 0) → GoesOn old new P

@@ -37,7 +37,7 @@ use Rattle.replica_sync.specs.declared.answer.SyncFault.TheVariants.{Follow, Txi
 use Rattle.replica_sync.specs.Answers.{IsNamed, IsNextAnswer, HasCauses, last_txid}
 use Rattle.replica_sync.specs.LiveSide.{HasFollowed, Shows, MayAdvanceTo, Syncs, StoresLive, IsPiece, IsWhole, found_of}
 use Rattle.replica_sync.specs.Newest.{newest_of}
-use Rattle.replica_sync.specs.Reading.{ReadsFound, IsStoreFault}
+use Rattle.replica_sync.specs.Reading.{ReadsFound, ConfirmsFound, IsStoreFault}
 use Rattle.replica_sync.specs.Storing.{IsNextName, synced_of}
 use Rattle.replica_sync.proofs.ReadingLemmas.{passes_join}
 
@@ -296,8 +296,9 @@ module _ (f kept after : Following) (answer : Next) (found : Found) (old mid new
       by want refused second = tt
 
   pub syncs_stored : (name : FileName) → after.place ≡ Some found.place
-      → StoresLive kept after found.place (Ok name) mid new → Syncs f after (Ok (synced_of found.wanted name)) old new
-  syncs_stored name place second = record {
+      → StoresLive kept after found.place (Ok name) mid new → ConfirmsFound kept (target_of found) mid new
+      → Syncs f after (Ok (synced_of found.wanted name)) old new
+  syncs_stored name place second confirms = record {
     step = step_join old.database mid.database new.database first.step second.step;
     awake = λ ok. second.awake refl (first.awake refl);
     fits = λ legal awake. second.fits (first.step.legal legal) awake;
@@ -313,6 +314,7 @@ module _ (f kept after : Following) (answer : Next) (found : Found) (old mid new
         found = found;
         is = is;
         followed = followed second.step;
+        confirmed = confirms;
         kind =
             subst IsWhole (sym kind) tt;
         place = place;
@@ -322,6 +324,7 @@ module _ (f kept after : Following) (answer : Next) (found : Found) (old mid new
         found = found;
         is = is;
         followed = followed second.step;
+        confirmed = confirms;
         kind = subst IsPiece (sym kind)
             tt;
         place = place;

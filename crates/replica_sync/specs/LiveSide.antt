@@ -16,8 +16,8 @@ use Rattle.wal_follow.specs.declared.fault.FollowFault.TheVariants.{Header, Size
 use Rattle.wal_follow.specs.declared.fault.FollowFault.TheVariants.{GateBroken, Live, Memory}
 use Rattle.wal_follow.specs.declared.following.Following.{Following}
 use Rattle.wal_follow.specs.Following.{Fits}
-use Rattle.wal_follow.specs.Calls.{Follows, KeepsPasses}
-use Rattle.replica_sync.specs.Reading.{IsBrokenBy}
+use Rattle.wal_follow.specs.Calls.{Follows, KeepsPasses, target_of}
+use Rattle.replica_sync.specs.Reading.{IsBrokenBy, ConfirmsFound}
 use Rattle.round_line.specs.declared.round.Synced.{Synced}
 use Rattle.round_line.specs.declared.round.Synced.TheVariants.{Same, Piece, Whole}
 use Rattle.replica_sync.specs.declared.answer.SyncFault.{SyncFault}
@@ -50,12 +50,14 @@ found_of next.Same = None
 found_of (next.Piece found) = Some found
 found_of (next.Lost found) = Some found
 
--- What was found was stored, and its place is the recorded one.
+-- What was found was stored once the log was asked again whether it still has its salts, and its place is the recorded
+-- one.
 pub record HasStoredFound (f after : Following) (wanted : Wanted → Type 0) (old new : LiveRecord) : Type 0 where
   pub answer : Next
   pub found : Found
   pub is : found_of answer ≡ Some found
   pub followed : HasFollowed f answer old new
+  pub confirmed : ConfirmsFound followed.kept (target_of found) followed.mid new
   pub kind : wanted found.wanted
   pub place : after.place ≡ Some found.place
 

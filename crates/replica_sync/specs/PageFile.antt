@@ -40,7 +40,7 @@ abbrev pub KeepsBegun : PageFile → Told → Told → Type 0
 KeepsBegun file old new =
     (begun : Told) → HasPages file begun old empty → GoesOn begun new (KeepsOthers file.put)
 
--- Whatever pages were given, the bytes begin with the header and, where these are enough, are the file of it and them, ..
+-- Whatever pages were given, the bytes begin with the header and, where these are enough, are the file of both, ..
 pub record EndsAs (file : PageFile) (pages : PageMap) (bytes : List ℕ) : Type 0 where
   pub head : HasHeader bytes file.writer.header
   pub is : IsWhole file.writer.header pages → IsLtxFile bytes file.writer.header (change_with file.writer.header pages)

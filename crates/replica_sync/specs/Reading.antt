@@ -14,8 +14,9 @@ use Rattle.wal_follow.specs.declared.fault.Broken.TheVariants.{Salts, Short}
 use Rattle.wal_follow.specs.declared.fault.FollowFault.TheVariants.{Header, SizesDiffer, WalTooLong, TooLarge}
 use Rattle.wal_follow.specs.declared.fault.FollowFault.TheVariants.{GateBroken, Live, Memory}
 use Rattle.wal_follow.specs.declared.following.Following.{Following}
+use Rattle.wal_follow.specs.declared.following.Target.{Target}
 use Rattle.wal_follow.specs.Following.{Fits}
-use Rattle.wal_follow.specs.Calls.{IsTargetView, target_of, IsAnswerToSalts, KeepsPasses}
+use Rattle.wal_follow.specs.Calls.{IsTargetView, target_of, IsAnswerToSalts, KeepsPasses, Confirms}
 use Rattle.replica_sync.specs.declared.answer.SyncFault.{SyncFault}
 use Rattle.replica_sync.specs.declared.answer.SyncFault.TheVariants as fault
 use Rattle.replica_sync.specs.declared.page_file.PageFile.{PageFile}
@@ -52,6 +53,12 @@ pub record ReadsPage
   pub value : IsOk result → new.database.chances ≡ 0
       → (view : State) → IsTargetView (target_of found) new.database found.place view
       → page_of view number ≡ Some page
+
+-- The last that was asked is whether the log still has the salts of what was found, and it had them.
+pub record ConfirmsFound (f : Following) (target : Target) (old new : LiveRecord) : Type 0 where
+  pub mid : LiveRecord
+  pub before : IsWriterStep old.database mid.database
+  pub confirms : Confirms f target (Ok tt) mid new
 
 -- the refusals that there are
 abbrev pub IsReadFault : Result (Unit {0}) SyncFault → Type 0

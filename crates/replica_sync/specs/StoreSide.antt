@@ -14,8 +14,8 @@ use Rattle.round_line.specs.declared.round.Synced.TheVariants.{Same, Piece, Whol
 use Rattle.replica_sync.specs.declared.answer.SyncFault.{SyncFault}
 use Rattle.replica_sync.specs.Newest.{newest_of}
 
--- The bytes are a file of the name's transactions with this moment, and begin with its header. Only a whole state begins
--- with the first one.
+-- The bytes are a file of the name's transactions with this moment, and begin with its header. Only a whole state
+-- begins with the first one.
 pub record IsStoredFile (name : FileName) (moment : ℕ) (bytes : List ℕ) : Type 0 where
   pub header : LtxHeader
   pub change : Change

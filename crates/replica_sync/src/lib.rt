@@ -3,7 +3,9 @@
 //! To the layer above it promises: nothing is stored where nothing changed, a piece where one was found, and else the
 //! whole state; the file is of the transaction behind the newest one, it is read page by page under the gate, and its
 //! pages are those of the one state that was found, whatever the writer does meanwhile (`IsFileOfFound`); it has its
-//! name only once it is whole and on the disk; the follower fits again, and the hold may move to the stored place.
+//! name only once it is whole and on the disk, and begins with the header of its name's transactions; the last that is
+//! asked of the log is whether it still has the salts of what was found. The follower fits again and knows its place,
+//! the hold may move there, and no pass is asked for. `next_moment` is the moment that a stored file has.
 //! Each refusal tells its cause. No file is held whole: one page and 64 KiB are.
 //! Over a legal database of which no coincidence is counted, a replica that tells the truth goes on telling it, as read
 //! and whatever a crash leaves (`faith`): after Ok about its log and the stored line, after a refusal about its log

@@ -8,7 +8,7 @@ ghost use Rattle.ltx_format.specs.LtxFormat.{IsStored};
 ghost use Rattle.wal_follow.specs.Following.{Fits};
 ghost use Rattle.wal_follow.specs.Calls.{target_of};
 ghost use Rattle.replica_sync.specs.Answers.{HasCauses};
-ghost use Rattle.replica_sync.specs.Reading.{ReadsFound, ReadsPage, IsReadFault, IsBegun};
+ghost use Rattle.replica_sync.specs.Reading.{ReadsFound, ReadsPage, ConfirmsFound, IsReadFault, IsBegun};
 ghost use Rattle.replica_sync.specs.Pages as spec;
 ghost use Rattle.replica_sync.specs.Pages.{IsStorable};
 ghost use Rattle.replica_sync.specs.PageFile.{IsWriting, GainsPage, KeepsAll, KeepsBegun, PutsPages};
@@ -99,6 +99,8 @@ fn confirm<L: Live>(live: &mut L, follower: &Follower, found: &Found) -> Result<
     requires found { follower.now.found ≡ Some (target_of found.now) }
     requires fits { IfTold (L.told live.old) (λ r. Fits follower.now r.database) }
     ensures reads { GoesOn (L.told live.old) (L.told live.new) (ReadsFound follower.now found.now.place result) }
+    ensures confirmed { OnOk result (GoesOn (L.told live.old) (L.told live.new)
+        (ConfirmsFound follower.now (target_of found.now))) }
     ensures answer { IsReadFault result }
     ensures keeps { Keeps (L.attached live.old) (L.attached live.new) (L.is_there live.old) (L.is_there live.new) }
     ensures causes { (store : ℕ) → HasCauses (L.fault_count live.old) (L.fault_count live.new) store store result }
@@ -131,6 +133,8 @@ pub(crate) fn put_found<L: Live, S: Disk>(
     ensures path { file.new.put ≡ file.old.put }
     ensures header { file.new.writer.header ≡ file.old.writer.header }
     ensures reads { GoesOn (L.told live.old) (L.told live.new) (ReadsFound follower.now found.now.place result) }
+    ensures confirmed { OnOk result (GoesOn (L.told live.old) (L.told live.new)
+        (ConfirmsFound follower.now (target_of found.now))) }
     ensures ok { OnOk result (PutsPages found.now (spec.count_of found.now) file.old file.new (S.told store.old)
         (S.told store.new) (L.told live.old) (L.told live.new)) }
     ensures err { OnErr result (KeepsBegun file.old (S.told store.old) (S.told store.new)) }

@@ -11,7 +11,7 @@ ghost use Rattle.wal_follow.specs.Calls.{target_of, KnowsPlace};
 ghost use Rattle.replica_sync.specs.Answers.{HasCauses, IsNextAnswer};
 ghost use Rattle.replica_sync.specs.LiveSide.{StoresLive};
 ghost use Rattle.replica_sync.specs.Newest.{next_moment};
-ghost use Rattle.replica_sync.specs.Reading.{ReadsFound, IsReadFault, IsStoreFault, IsBegun};
+ghost use Rattle.replica_sync.specs.Reading.{ReadsFound, ConfirmsFound, IsReadFault, IsStoreFault, IsBegun};
 ghost use Rattle.replica_sync.specs.Pages.{IsStorable};
 ghost use Rattle.replica_sync.specs.Storing.{PutsFound, MayPutFound, StoresFound, MayStoreFound};
 ghost use Rattle.replica_sync.specs.Storing.{StoresNext, MayStoreNext};
@@ -71,6 +71,8 @@ fn write_file<L: Live, S: Disk>(
     requires awake { IfTold (L.told live.old) (λ r. r.database.stopped ≡ false) }
     requires begun { IsBegun found.now file (S.told store.old) }
     ensures reads { GoesOn (L.told live.old) (L.told live.new) (ReadsFound follower.now found.now.place result) }
+    ensures confirmed { OnOk result (GoesOn (L.told live.old) (L.told live.new)
+        (ConfirmsFound follower.now (target_of found.now))) }
     ensures ok { OnOk result (PutsFound file found.now (S.told store.old) (S.told store.new) (L.told live.old)
         (L.told live.new)) }
     ensures err { OnErr result (MayPutFound file found.now (S.told store.old) (S.told store.new) (L.told live.old)
@@ -110,6 +112,8 @@ pub(crate) fn store_found<L: Live, S: Disk>(
     requires fits { IfTold (L.told live.old) (λ r. Fits follower.now r.database) }
     requires awake { IfTold (L.told live.old) (λ r. r.database.stopped ≡ false) }
     ensures reads { GoesOn (L.told live.old) (L.told live.new) (ReadsFound follower.now found.now.place result) }
+    ensures confirmed { OnOk result (GoesOn (L.told live.old) (L.told live.new)
+        (ConfirmsFound follower.now (target_of found.now))) }
     ensures ok { OnOk result (StoresFound found.now name.now moment (S.told store.old) (S.told store.new)
         (L.told live.old) (L.told live.new)) }
     ensures err { OnErr result (MayStoreFound found.now name.now moment (S.told store.old) (S.told store.new)
@@ -149,6 +153,8 @@ pub(crate) fn store_next<L: Live, S: Disk>(
     ensures known { OnOk result (KnowsPlace follower.new) }
     ensures live { GoesOn (L.told live.old) (L.told live.new)
         (StoresLive follower.old follower.new found.now.place result) }
+    ensures confirmed { OnOk result (GoesOn (L.told live.old) (L.told live.new)
+        (ConfirmsFound follower.old (target_of found.now))) }
     ensures ok { IfOk result (λ name. StoresNext dated.now found.now name (next_moment dated.now now)
         (S.told store.old) (S.told store.new) (L.told live.old) (L.told live.new)) }
     ensures err { OnErr result (MayStoreNext dated.now found.now (next_moment dated.now now) (S.told store.old)

@@ -8,7 +8,8 @@
 //! `next` finds what became of the database since the place: over a told live database its answer is the
 //! last mark of the log, or the database file where the log has none, with the pages of the piece since the
 //! place, and `Lost` only where the log doesn't lead on from there; the follower fits what it found (`Follows`).
-//! That it answers, what it keeps and learns, and the causes of its faults hold of every live database.
+//! That it answers, what it keeps and learns, and the causes of its faults hold of every live database. No call asks
+//! for a pass.
 //!
 //! It stands on the trait of a live database (`live_gate`), on pages by a map of offsets (`snapshot_read`), on
 //! the scan of a log (`wal_frames`) and on the database header (`db_page`).

@@ -2,10 +2,10 @@ use Rattle.std.proofs.Common.{Some, sym, ap, subst, arith}
 use Rattle.snapshot_read.proofs.TellLemmas.{err_of}
 use Rattle.ls_base.specs.declared.place.Place.{Place}
 use Rattle.wal_follow.specs.Following.{is_in_log}
-use Rattle.wal_follow.proofs.GoesOnLemmas.{goes_from}
+use Rattle.wal_follow.proofs.GoesOnLemmas.{goes_map, goes_from}
 use Rattle.replica_sync.specs.Reading.{ReadsFound, IsReadFault}
 use Rattle.replica_sync.proofs.ReadingLemmas.{confirmed, unconfirmed, nothing_read, confirm_answer, live_failed}
-use Rattle.replica_sync.proofs.ReadingLemmas.{none_failed}
+use Rattle.replica_sync.proofs.ReadingLemmas.{none_failed, confirms_log, confirms_nothing}
 use Rattle.replica_sync.proofs.pages.confirm.Goals as goal
 
 pub returns-in-Rest-clause-reads : goal.returns-in-Rest-clause-reads
@@ -50,3 +50,19 @@ pub returns-in_ok-confirm-in-Wal-clause-causes : goal.returns-in_ok-confirm-in-W
 returns-in_ok-confirm-in-Wal-clause-causes g c = λ store.
     none_failed (g.L.Live.fault_count c.args.live.now) (g.L.Live.fault_count c.confirm.new.live) store store
     c.confirm.ensures.cause.later (omega arith)
+
+pub returns-in-Rest-clause-confirmed : goal.returns-in-Rest-clause-confirmed
+returns-in-Rest-clause-confirmed g c = record {
+  told = λ r told. (
+    r,
+    told,
+    confirms_nothing c.args.follower.now c.args.found.now r c.in-Rest.sum c.in-Rest.is
+        (c.requires.fits r told),
+  );
+  silent = λ none. none;
+}
+
+pub returns-in_ok-confirm-in-Wal-clause-confirmed : goal.returns-in_ok-confirm-in-Wal-clause-confirmed
+returns-in_ok-confirm-in-Wal-clause-confirmed g c =
+    goes_map _ _ _ _ c.in_ok-confirm-in-Wal.ensures.told (λ r after confirms.
+    confirms_log c.args.follower.now c.args.found.now r after confirms)

@@ -1,4 +1,5 @@
 use Rattle.std.proofs.Common.{◌≡◌, false, refl, sym, subst}
+use Rattle.std.proofs.lemmas.Result.{on_ok_weaker}
 use Rattle.snapshot_read.proofs.TellLemmas.{err_of}
 use Rattle.crash_disk.specs.GoesOn as disk
 use Rattle.wal_follow.specs.Following.{Fits}
@@ -9,7 +10,7 @@ use Rattle.replica_sync.specs.Answers.{HasCauses}
 use Rattle.replica_sync.specs.Reading.{ReadsFound, IsReadFault}
 use Rattle.replica_sync.proofs.PageFileLemmas.{pages_keep}
 use Rattle.replica_sync.proofs.PagesLemmas.{puts_later}
-use Rattle.replica_sync.proofs.ReadingLemmas.{reads_join, live_now, later_causes}
+use Rattle.replica_sync.proofs.ReadingLemmas.{reads_join, live_now, later_causes, confirms_later}
 use Rattle.replica_sync.proofs.ResultLemmas.{on_ok_any, on_err_any}
 use Rattle.replica_sync.proofs.pages.put_found.Goals as goal
 
@@ -70,3 +71,9 @@ returns-clause-causes g c =
     (g.S.Disk.fault_count c.put_pages.new.store) (g.S.Disk.fault_count c.put_pages.new.store)
     c.put_pages.ensures.causes.live_later c.put_pages.ensures.causes.store_later
     (c.confirm.ensures.causes (g.S.Disk.fault_count c.put_pages.new.store))
+
+pub returns-clause-confirmed : goal.returns-clause-confirmed
+returns-clause-confirmed g c =
+    on_ok_weaker c.confirm.result
+    (λ goes. goes_join _ _ _ _ _ _ c.in_ok-put_pages.ensures.reads goes (λ r mid after reads confirms.
+    confirms_later c.args.follower.now c.args.found.now mid after r reads.step confirms)) c.confirm.ensures.confirmed

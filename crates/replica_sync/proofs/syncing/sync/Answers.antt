@@ -4,14 +4,15 @@ use Rattle.crash_disk.specs.GoesOn as disk
 use Rattle.wal_follow.specs.declared.answer.Next.{Next}
 use Rattle.live_gate.specs.Legal.{IsLegal}
 use Rattle.wal_follow.specs.Following.{Fits}
-use Rattle.wal_follow.specs.Calls.{Follows, found_in}
+use Rattle.wal_follow.specs.Calls.{Follows, found_in, target_of}
 use Rattle.wal_follow.proofs.GoesOnLemmas.{goes_from, goes_join}
 use Rattle.round_line.specs.declared.round.Synced.{Synced}
 use Rattle.replica_sync.specs.Answers.{IsNamed}
-use Rattle.replica_sync.specs.LiveSide.{Syncs}
+use Rattle.replica_sync.specs.LiveSide.{Syncs, StoresLive}
 use Rattle.replica_sync.specs.Newest.{next_moment}
+use Rattle.replica_sync.specs.Reading.{ConfirmsFound}
 use Rattle.replica_sync.specs.StoreSide.{Stores}
-use Rattle.replica_sync.proofs.ReadingLemmas.{live_now}
+use Rattle.replica_sync.proofs.ReadingLemmas.{live_now, goes_with}
 use Rattle.replica_sync.proofs.SyncLemmas.{follow_causes, later_recast, all_well, named_follow, named_refused}
 use Rattle.replica_sync.proofs.SyncLemmas.{named_stored, syncs_err, syncs_refused, syncs_stored, syncs_same}
 use Rattle.replica_sync.proofs.SyncStoreLemmas.{store_unchanged, store_refused, store_stored, found_target}
@@ -111,11 +112,16 @@ returns-in_ok-name-in-Some-clause-named g c =
 
 pub returns-in_ok-name-in-Some-clause-live : goal.returns-in_ok-name-in-Some-clause-live
 returns-in_ok-name-in-Some-clause-live g c =
-    goes_join _ _ _ _ _ _ c.in_ok-next.ensures.told c.in_ok-name-in-Some.ensures.live (λ r mid after first second.
+    let stores = goes_with _ _ _ _ (λ mid after. StoresLive c.next.new.self c.store_next.new.follower
+    c.in-Some.found.place (Ok c.in_ok-name-in-Some.name) mid after
+    × ConfirmsFound c.next.new.self (target_of c.in-Some.found) mid after) c.in_ok-name-in-Some.ensures.live
+    c.in_ok-name-in-Some.ensures.confirmed (λ mid after live confirms. (live, confirms)) in
+    goes_join _ _ _ _ _ _ c.in_ok-next.ensures.told stores (λ r mid after first second.
     subst (λ (s : Synced). Syncs c.args.follower.now c.store_next.new.follower (Ok s) r after) (sym c.synced_of.ensures)
     (syncs_stored c.args.follower.now c.next.new.self c.store_next.new.follower c.in_ok-next.next c.in-Some.found r
     mid after
-    first (sym c.found_of.ensures ∙ c.in-Some.is) c.in_ok-name-in-Some.name c.in_ok-name-in-Some.ensures.place second))
+    first (sym c.found_of.ensures ∙ c.in-Some.is) c.in_ok-name-in-Some.name c.in_ok-name-in-Some.ensures.place second.0
+    second.1))
 
 pub returns-in_ok-name-in-Some-clause-store : goal.returns-in_ok-name-in-Some-clause-store
 returns-in_ok-name-in-Some-clause-store g c =
