@@ -7,6 +7,7 @@ pub mod ChangesLemmas
 pub mod StoreLemmas
 pub mod RoundStore
 pub mod ChangeLemmas
+pub mod LaterLemmas
 pub mod RoundPassed
 pub mod SoundLemmas
 pub mod RoundKept

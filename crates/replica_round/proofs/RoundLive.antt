@@ -1,16 +1,15 @@
 -- What a round does to what a live database tells, at its exits behind the pass.
-use Rattle.std.proofs.lemmas.List.{append_assoc}
-use Rattle.std.proofs.Common.{◌≡◌, ℕ, ◌+◌, List, ◌++◌, Bool, true, false, Option, Some, None, Result, Ok, Err, refl, sym, ap, subst}
+use Rattle.std.proofs.Common.{◌≡◌, ℕ, ◌+◌, Bool, true, false, Option, Some, None, Result, Ok, Err, refl, sym, ap, subst}
 use Rattle.std.proofs.Common.{◌∙◌, inl, inr, arith}
 use Rattle.std.specs.Prelude.{if◌then◌else◌, ◌⊎◌}
 use Rattle.ls_base.specs.declared.place.Place.{Place}
 use Rattle.ls_base.specs.declared.place.Place.TheVariants.{Wal, Rest}
 use Rattle.live_gate.specs.declared.fault.PassFault.{PassFault}
 use Rattle.live_gate.specs.declared.fault.PassFault.TheVariants as pass
-use Rattle.live_gate.specs.LiveRecord.{Asked, Database, LiveRecord, IsPrefix, Told, GoesOn, IfTold}
+use Rattle.live_gate.specs.LiveRecord.{Asked, Database, LiveRecord, Told, GoesOn, IfTold}
 use Rattle.live_gate.specs.LiveCalls.{capped}
 use Rattle.live_gate.specs.Legal.{IsLegal}
-use Rattle.live_gate.specs.Step.{IsWriterStep, KeepsHold, HasStopped, IsStepButHold}
+use Rattle.live_gate.specs.Step.{IsWriterStep, KeepsHold, HasStopped}
 use Rattle.round_line.specs.declared.round.Round.{Round}
 use Rattle.round_line.specs.declared.round.Synced.{Synced}
 use Rattle.wal_follow.specs.declared.following.Following.{Following}
@@ -23,6 +22,7 @@ use Rattle.replica_round.specs.Later.{IsLater}
 use Rattle.replica_round.specs.LiveSide.{GoesBehind, HasRoundedLive, PassFails, UpkeepStops, ShowsRound, Rounds}
 use Rattle.replica_round.specs.Passing.{IsLong, PassesWhenLong, WasAsked}
 use Rattle.replica_round.specs.Stop.{MayHavePassed, stop_of_pass, stop_of_upkeep}
+use Rattle.replica_round.proofs.LaterLemmas.{later_then, later_hold}
 use Rattle.replica_round.proofs.RoundPassed.{later_by}
 
 never : false ≡ true → ⊥
@@ -39,24 +39,6 @@ goes_fitting a b c P Q R F first second fits each = record {
       (after.0, after.1, each r mid.0 after.0 mid.2 after.2 (fits after.0 after.1));
   silent = λ is. second.silent (first.silent is);
 }
-
--- ---- one moment after another
-
-prefix_then : {A : Type 0} (a b c : List A) → IsPrefix a b → IsPrefix b c → IsPrefix a c
-prefix_then a b c first second = record {
-  rest = first.rest ++ second.rest;
-  is = second.is ∙ ap (λ xs. xs ++ second.rest) first.is ∙ append_assoc a first.rest second.rest;
-}
-
-pub later_then : (a b c : Database) → IsLater a b → IsLater b c → IsLater a c
-later_then a b c first second = record {
-  legal = λ is. second.legal (first.legal is);
-  history = prefix_then a.history b.history c.history first.history second.history;
-  chances = let x = first.chances in let y = second.chances in omega (arith, x, y);
-}
-
-later_but_hold : (old new : Database) → IsStepButHold old new → IsLater old new
-later_but_hold old new is = record { legal = is.legal; history = is.step.history; chances = is.step.chances }
 
 -- ---- the counts of passes
 
@@ -142,7 +124,7 @@ module _ (f kept after : Following) (at_rest : Bool) (changed : Changed) (old mi
 
     later : IsLater old.database new.database
     later = later_then old.database mid.database new.database
-        (later_but_hold old.database mid.database changes.step) (later_by kept after at_rest passed mid new passes)
+        (later_hold old.database mid.database changes.step) (later_by kept after at_rest passed mid new passes)
 
     legal : IsLegal new.database
     legal = (later_by kept after at_rest passed mid new passes).legal changes.legal

@@ -10,9 +10,7 @@ use Rattle.live_gate.proofs.StepLemmas.{step_itself}
 use Rattle.wal_follow.specs.declared.following.Following.{Following}
 use Rattle.replica_round.specs.Later.{IsLater}
 use Rattle.replica_round.specs.Passing.{PassesWhenLong, WasAsked}
-
-pub later_step : (old new : Database) → IsWriterStep old new → IsLater old new
-later_step old new step = record { legal = step.legal; history = step.history; chances = step.chances }
+use Rattle.replica_round.proofs.LaterLemmas.{later_step}
 
 later_pass : (place : Place) (old new : Database) → TakesPlace place old new → IsLater old new
 later_pass place old new took = record { legal = took.legal; history = took.history; chances = took.chances }

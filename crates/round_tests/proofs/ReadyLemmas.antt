@@ -1,5 +1,5 @@
 -- A live database that is ready for a round, and stays so.
-use Rattle.std.proofs.Common.{◌≡◌, Option, Some, None, Result, Ok, refl, sym, subst, ◌∙◌}
+use Rattle.std.proofs.Common.{◌≡◌, Bool, Option, Some, None, Result, Ok, refl, sym, subst, ◌∙◌}
 use Rattle.live_gate.specs.declared.fault.LiveFault.{LiveFault}
 use Rattle.live_gate.specs.LiveRecord.{LiveRecord, Told, IfTold, GoesOn}
 use Rattle.live_gate.specs.Legal.{IsLegal}
@@ -30,14 +30,14 @@ entered old new done legal goes =
     told_now old new (Enters (Ok done)) (λ r. IsLegal r.database) (λ r. IsReady r.database) goes legal
     (λ x y is entering. record { legal = entering.step.legal is; gate = (y.database.copied, entering.ok) })
 
-module _ (f after : Following) (round : Round) (old new : Told) (was : IfTold old (λ r. IsReady r.database))
-    (goes : GoesOn old new (Rounds f after (Ok round))) where
+module _ (at_rest : Bool) (f after : Following) (round : Round) (old new : Told)
+    (was : IfTold old (λ r. IsReady r.database)) (goes : GoesOn old new (Rounds at_rest f after (Ok round))) where
   pub still_legal : IfTold new (λ r. IsLegal r.database)
   still_legal =
-      told_now old new (Rounds f after (Ok round)) (λ r. IsReady r.database) (λ r. IsLegal r.database) goes was
+      told_now old new (Rounds at_rest f after (Ok round)) (λ r. IsReady r.database) (λ r. IsLegal r.database) goes was
       (λ x y is rounds. rounds.legal)
 
   pub still_fits : IfTold new (λ r. Fits after r.database)
   still_fits =
-      told_now old new (Rounds f after (Ok round)) (λ r. IsReady r.database) (λ r. Fits after r.database) goes was
-      (λ x y is rounds. rounds.fits (rounds.awake refl))
+      told_now old new (Rounds at_rest f after (Ok round)) (λ r. IsReady r.database) (λ r. Fits after r.database) goes was
+      (λ x y is rounds. rounds.fits tt (rounds.awake refl))

@@ -65,7 +65,8 @@ returns-in_err-files-clause-causes g c =
 pub returns-in_err-sync-clause-live : goal.returns-in_err-sync-clause-live
 returns-in_err-sync-clause-live g c =
     subst (λ (result : Result Changed RoundStop). GoesOn (g.L.Live.told c.args.live.now) (g.L.Live.told c.sync.new.live)
-    (ChangesLive c.args.follower.now c.sync.new.follower result)) (sym (err_of _ _ c.from_residual-in_err-sync.ensures.1))
+    (ChangesLive c.args.follower.now c.sync.new.follower result))
+    (sym (err_of _ _ c.from_residual-in_err-sync.ensures.1))
     (goes_from _ _ _ _ c.in_err-sync.ensures.live (λ r after told syncs.
     refused_rounds c.args.follower.now c.sync.new.follower c.in_err-sync.field-0.0 r after (c.requires.legal r told)
     syncs))

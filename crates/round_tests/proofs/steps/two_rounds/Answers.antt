@@ -9,10 +9,10 @@ round-requires-clause-fits g c = λ r told. c.start-follower.ensures.fits r.data
 
 pub round-requires-2-clause-legal : goal.round-requires-2-clause-legal
 round-requires-2-clause-legal g c =
-    still_legal _ _ c.in_ok-first.first (g.L.Live.told c.begin.new.live) (g.L.Live.told c.round.new.live)
+    still_legal _ _ _ c.in_ok-first.first (g.L.Live.told c.begin.new.live) (g.L.Live.told c.round.new.live)
     c.in_ok-begin.ensures c.in_ok-first.ensures.live
 
 pub round-requires-2-clause-fits : goal.round-requires-2-clause-fits
 round-requires-2-clause-fits g c =
-    still_fits _ _ c.in_ok-first.first (g.L.Live.told c.begin.new.live) (g.L.Live.told c.round.new.live)
+    still_fits _ _ _ c.in_ok-first.first (g.L.Live.told c.begin.new.live) (g.L.Live.told c.round.new.live)
     c.in_ok-begin.ensures c.in_ok-first.ensures.live
