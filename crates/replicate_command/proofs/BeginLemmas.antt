@@ -20,7 +20,7 @@ use Rattle.replica_runs.specs.NewestLaws.{IsLineOfLog}
 use Rattle.replica_runs.proofs.NewestLemmas.{newest_is_recorded}
 use Rattle.replica_sync.specs.Faith.{IsPlaceOfNewest}
 use Rattle.ls_answers.specs.declared.outcome.Why.TheVariants.{Done}
-use Rattle.replicate_command.specs.Answers.{Explains}
+use Rattle.replicate_command.specs.Answers.{Explains, IfStoreTells}
 use Rattle.replicate_command.specs.Asked.{cut_of}
 use Rattle.replicate_command.specs.Exact.{BlamesNoFile}
 use Rattle.replicate_command.specs.Names.{MaintainsNames}
@@ -30,11 +30,13 @@ use Rattle.replicate_command.specs.Promise.{Ending, Prints, AreEnough, Whole, Te
 use Rattle.replicate_command.specs.Promise.Ending.{Finished, Unprinted, Spent, Refused}
 use Rattle.replicate_command.specs.Seen.{Seen, FaultsStay}
 use Rattle.replicate_command.specs.Stage.{Premise, IsAt, RunsOn, GoesSo, HasGoneOn, HasStopped}
+use Rattle.replicate_command.specs.Standing.{KeepsStanding}
 use Rattle.replicate_command.specs.Stop.{stop_of_store, why_of_stop}
 use Rattle.replicate_command.specs.declared.stop.ReplicateStop.{ReplicateStop}
 use Rattle.replicate_command.proofs.LaterLemmas.{live_weaker, same_told}
 use Rattle.replicate_command.proofs.NamesLemmas.{no_names, no_passes}
 use Rattle.replicate_command.proofs.RunLemmas.{gains_none, run_begins, run_outlasts}
+use Rattle.replicate_command.proofs.StandingLemmas.{unchanged_stands}
 use Rattle.replicate_command.proofs.TruthLemmas.{newest_good}
 
 -- nothing but the live database's moves took place
@@ -66,6 +68,10 @@ asked_now seen quiet old new is_old is_new =
 same_events : (seen : Seen) → IsQuiet seen → (before now : List Event) → seen.store ≡ Some before
     → seen.store_after ≡ Some now → now ≡ before
 same_events seen quiet before now is_before is_now = same_told now before (sym is_now ∙ quiet.store ∙ is_before)
+
+quiet_keeps : (seen : Seen) → IsQuiet seen → IfStoreTells seen (KeepsStanding (cut_of seen.asked))
+quiet_keeps seen quiet before now is_before is_now =
+    unchanged_stands (cut_of seen.asked) before now (same_events seen quiet before now is_before is_now)
 
 -- the first rounds of none
 none_begins : (old new : Database) (cut : ℕ) (settled : List Event) (log : SyncLog) → IsLater old new
@@ -114,15 +120,17 @@ not_yet number from to seen quiet there = record {
     passes = λ old new is_old is_new. no_passes seen.attached_after old new
         (ap (λ (a : Asks). a.passes_done) (asked_now seen quiet old new is_old is_new));
   };
+  keeps = quiet_keeps seen quiet;
   sound = λ old new settled now is_old is_new is_settled is_now log calm is fits. record {
     damaged = λ n d e. cc;
     lacking = λ n p e. cc;
   };
   faith = λ old new settled now is_old is_new is_settled is_now log calm is fits.
-      subst (λ (es : List Event). HasGoneOn to old.database.history new.database.history (cut_of seen.asked) settled es [] log)
+      subst (λ (es : List Event). HasGoneOn to old.database.history new.database.history (cut_of seen.asked) settled es
+      [] log)
       (sym (same_events seen quiet settled now is_settled is_now))
-      (none_begins old.database new.database (cut_of seen.asked) settled log (later_now seen quiet old new is_old is_new) is to
-      (there old.database.history log settled is is_settled fits));
+      (none_begins old.database new.database (cut_of seen.asked) settled log
+      (later_now seen quiet old new is_old is_new) is to (there old.database.history log settled is is_settled fits));
 }
 
 none_refused : (ending : Ending) → ending ≡ Refused → AreEnough ending 0 []
@@ -148,6 +156,7 @@ refused_yet number from to seen stop is_refused quiet explained unblamed =
       prints = subst (λ (e : Ending). Prints e number seen.text seen.text_after []) (sym is_refused)
           (quiet.text ∙ gains_none seen.text);
       tells = subst (λ (e : Ending). Whole e (TellsRounds seen [])) (sym is_refused) tt;
+      keeps = quiet_keeps seen quiet;
       sound = λ old new settled now is_old is_new is_settled is_now log calm is fits.
           unblamed old.database.history log settled is is_settled;
       faith = λ old new settled now is_old is_new is_settled is_now log calm is fits.
@@ -155,7 +164,8 @@ refused_yet number from to seen stop is_refused quiet explained unblamed =
           [] log) (sym is_refused)
           (subst (λ (es : List Event). HasStopped new.database.history (cut_of seen.asked) settled es [] log)
           (sym (same_events seen quiet settled now is_settled is_now))
-          (none_stops old.database new.database (cut_of seen.asked) settled log (later_now seen quiet old new is_old is_new) is));
+          (none_stops old.database new.database (cut_of seen.asked) settled log
+          (later_now seen quiet old new is_old is_new) is));
     }
 
 -- ---- the newest line

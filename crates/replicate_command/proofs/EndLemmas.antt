@@ -24,7 +24,7 @@ use Rattle.replica_runs.proofs.RunLemmas.{carried_on_extends, carried_on_keeps, 
 use Rattle.replica_sync.specs.Faith.{EndsSince}
 use Rattle.ls_answers.specs.declared.outcome.Why.{Why}
 use Rattle.ls_answers.specs.declared.outcome.Why.TheVariants.{Done, NoDatabase}
-use Rattle.replicate_command.specs.Answers.{Explains}
+use Rattle.replicate_command.specs.Answers.{Explains, IfStoreTells}
 use Rattle.replicate_command.specs.Asked.{Asked, cut_of}
 use Rattle.replicate_command.specs.Ends.{ReplicateEnds}
 use Rattle.replicate_command.specs.Names.{MaintainedRounds, CountsPasses, count_behind}
@@ -35,6 +35,7 @@ use Rattle.replicate_command.specs.Promise.{Ending, Prints, AreEnough, EndsSo, K
 use Rattle.replicate_command.specs.Promise.{ending_of}
 use Rattle.replicate_command.specs.Promise.Ending.{Finished, Unprinted, Spent, Refused}
 use Rattle.replicate_command.specs.Seen.{Seen, FaultsStay, AreAttached}
+use Rattle.replicate_command.specs.Standing.{KeepsStanding}
 use Rattle.replicate_command.specs.Stage.{Anything, RunsOn, GoesSo, HasStopped}
 use Rattle.replicate_command.proofs.ExplainLemmas.{joined, Meets, Closes, faults_then, objects_then, explains_since}
 use Rattle.replicate_command.proofs.ExplainLemmas.{explains_until, closes_on}
@@ -42,6 +43,7 @@ use Rattle.replicate_command.proofs.LaterLemmas.{live_weaker, same_told}
 use Rattle.replicate_command.proofs.RunLemmas.{gains_none, run_outlasts, ends_longer, ends_earlier}
 use Rattle.replicate_command.proofs.ExactLemmas.{done_then}
 use Rattle.replicate_command.proofs.NamesLemmas.{files_kept}
+use Rattle.replicate_command.proofs.StandingLemmas.{stands_same, stands_then, unchanged_stands}
 
 -- ---- what becomes of the replica
 
@@ -148,7 +150,10 @@ module _ (opening stage closing : Seen) (why : Why) (begins : Meets opening stag
   all = joined (joined opening stage) closing
 
   opens : ObjectsGoOn opening
-  opens = record { live = live_weaker _ _ _ _ live (λ x y both. both.0); store = goes_on-weaker _ _ _ _ store (λ x y is. tt) }
+  opens = record {
+    live = live_weaker _ _ _ _ live (λ x y both. both.0);
+    store = goes_on-weaker _ _ _ _ store (λ x y is. tt);
+  }
 
   all_explained : Explains all why
   all_explained =
@@ -190,6 +195,15 @@ module _ (opening stage closing : Seen) (why : Why) (begins : Meets opening stag
           alone = of_stage.alone;
         });
   }
+
+  all_keeps : IfStoreTells all (KeepsStanding (cut_of all.asked))
+  all_keeps before now is_before is_now =
+      let cut = cut_of opening.asked in
+      let settled = store.told before is_before in
+      let of_stage = runs.keeps settled.0 now (begins.store ∙ settled.1) (sym (closes.store ∙ ends.store) ∙ is_now) in
+      stands_then cut settled.0 now
+      (subst (λ (a : Asked). KeepsStanding (cut_of a) settled.0 now) begins.asked of_stage) before
+      (stands_same cut before settled.0 settled.2.files)
 
   in_rounds : (old new : LiveRecord) (before now : List Event) → all.live ≡ Some old → all.live_after ≡ Some new
       → all.store ≡ Some before → all.store_after ≡ Some now → (log : SyncLog) → new.database.chances ≡ 0
@@ -248,6 +262,7 @@ module _ (opening stage closing : Seen) (why : Why) (begins : Meets opening stag
       faith = all_faith;
       lets_go = lets_go;
     };
+    keeps = all_keeps;
     attached = attached;
     goes_on = objects_then (joined opening stage) closing ends (objects_then opening stage begins opens runs.goes_on)
         (closes_on closing closes);
@@ -300,6 +315,8 @@ refused_first seen why is_refused explained live store text faults exact lets_go
         faith = faith;
         lets_go = lets_go;
       };
+      keeps = λ before now is_before is_now. unchanged_stands (cut_of seen.asked) before now
+          (same_told now before (sym is_now ∙ store ∙ is_before));
       attached = λ done. absurd (never done);
       goes_on = record {
         live = live;

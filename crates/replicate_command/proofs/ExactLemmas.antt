@@ -70,7 +70,8 @@ module _ (seen : Seen) (rounds : List Round) (old new : LiveRecord) (before now 
       absurd (may.one_size db wal (explained.1 old new is_old is_new calm))
   done_then (WalTooLong size) explained enough faith blames =
       let given = explained new is_new may.size may.said in absurd (omega (arith, given.1, may.short))
-  done_then (TooLarge size) explained enough faith blames = absurd (may.small size (explained old new is_old is_new calm))
+  done_then (TooLarge size) explained enough faith blames =
+      absurd (may.small size (explained old new is_old is_new calm))
   done_then (GateBroken how) explained enough faith blames = absurd ((explained new is_new).1 calm)
   done_then (Damaged name damage) explained enough faith blames =
       absurd (blames.damaged name damage refl)

@@ -13,6 +13,7 @@ use Rattle.round_line.specs.RoundText.{round_text}
 use Rattle.replica_runs.specs.Rounds.{rounds_text}
 use Rattle.ls_answers.specs.declared.outcome.Why.{Why}
 use Rattle.ls_answers.specs.declared.outcome.Why.TheVariants.{Done}
+use Rattle.replicate_command.specs.Answers.{IfStoreTells}
 use Rattle.replicate_command.specs.Promise.{Ending, Prints, AreEnough, Whole, TellsRounds, ending_of}
 use Rattle.replicate_command.specs.Promise.Ending.{Finished, Unprinted, Spent, Refused}
 use Rattle.replicate_command.specs.Seen.{Seen}
@@ -20,6 +21,7 @@ use Rattle.replicate_command.specs.Asked.{Asked, cut_of}
 use Rattle.replicate_command.specs.Names.{MaintainsNames, CountsPasses}
 use Rattle.replicate_command.specs.Later.{ObjectsGoOn}
 use Rattle.replica_round.specs.Later.{IsLater}
+use Rattle.replicate_command.specs.Standing.{KeepsStanding}
 use Rattle.replicate_command.specs.Stage.{Premise, Anything, RunsOn, GoesSo}
 use Rattle.replicate_command.specs.Stop.{why_of, why_of_stop}
 use Rattle.replicate_command.specs.declared.stop.ReplicateStop.{ReplicateStop}
@@ -31,6 +33,7 @@ use Rattle.replicate_command.proofs.LaterLemmas.{same_told, told_before}
 use Rattle.replicate_command.proofs.ExplainLemmas.{Meets, joined, explains_since, faults_then, objects_then}
 use Rattle.replicate_command.proofs.NamesLemmas.{names_then, passes_then}
 use Rattle.replicate_command.proofs.RunLemmas.{gains_more, texts_join, goes_then}
+use Rattle.replicate_command.proofs.StandingLemmas.{stands_then}
 
 -- ---- counts and texts
 
@@ -95,6 +98,18 @@ tells_then first second meets on one two told Unprinted more = tt
 tells_then first second meets on one two told Spent more = tt
 tells_then first second meets on one two told Refused more = tt
 
+-- ---- the files
+
+keeps_then : (first second : Seen) → Meets first second → ObjectsGoOn first
+    → IfStoreTells first (KeepsStanding (cut_of first.asked))
+    → IfStoreTells second (KeepsStanding (cut_of second.asked))
+    → IfStoreTells (joined first second) (KeepsStanding (cut_of first.asked))
+keeps_then first second meets on one two before now is_before is_now =
+    let mid = on.store.told before is_before in
+    stands_then (cut_of first.asked) mid.0 now
+    (subst (λ (a : Asked). KeepsStanding (cut_of a) mid.0 now) meets.asked
+    (two mid.0 now (meets.store ∙ mid.1) is_now)) before (one before mid.0 is_before mid.1)
+
 -- ---- both parts
 
 -- Behind a part that ended comes another one.
@@ -114,6 +129,7 @@ runs_on_then number few count from via to first second why meets one two = recor
       (subst (λ (n : ℕ). Prints (ending_of why) (number + n) second.text second.text_after two.rounds) (sym one.enough)
       two.prints));
   tells = tells_then first second meets one.goes_on one.rounds two.rounds one.tells (ending_of why) two.tells;
+  keeps = keeps_then first second meets one.goes_on one.keeps two.keeps;
   faith = λ old new settled now is_old is_new is_settled is_now log calm is_settled_to fits.
       let cut = cut_of first.asked in
       let mid = one.goes_on.live.told old is_old in
@@ -197,6 +213,7 @@ refused_alike number few count below from to other seen stop runs =
       enough = enough_refused ending (never_finished stop) few count below runs.rounds runs.enough;
       prints = runs.prints;
       tells = whole_refused ending (never_finished stop) _;
+      keeps = runs.keeps;
       faith = λ old new settled now is_old is_new is_settled is_now log calm is fits.
           goes_refused ending (never_finished stop) to other old.database.history new.database.history
           (cut_of seen.asked) settled now runs.rounds log
@@ -215,6 +232,7 @@ anywhere number count from to seen runs = record {
   enough = runs.enough;
   prints = runs.prints;
   tells = runs.tells;
+  keeps = runs.keeps;
   faith = λ old new settled now is_old is_new is_settled is_now log calm is fits.
       let gone = runs.faith old new settled now is_old is_new is_settled is_now log calm is fits in
       record { ended = gone.ended; run = gone.run; fits = tt; newest = gone.newest };

@@ -1,9 +1,11 @@
 pub mod LaterLemmas
 pub mod NamesLemmas
+pub mod StandingLemmas
 pub mod ExplainLemmas
 pub mod RunLemmas
 pub mod JoinLemmas
 pub mod RoundLemmas
+pub mod RefusedLemmas
 pub mod TruthLemmas
 pub mod BeginLemmas
 pub mod ExactLemmas

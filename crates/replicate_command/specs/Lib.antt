@@ -4,6 +4,7 @@ pub mod Later
 pub mod Stop
 pub mod Answers
 pub mod Names
+pub mod Standing
 pub mod Promise
 pub mod Exact
 pub mod Ends

@@ -17,13 +17,14 @@ use Rattle.replica_sync.specs.Answers.{last_txid}
 use Rattle.replica_sync.specs.Faith.{EndsSince, IfBothTell, IsPlaceOfNewest}
 use Rattle.wal_follow.specs.declared.following.Following.{Following}
 use Rattle.ls_answers.specs.declared.outcome.Why.{Why}
-use Rattle.replicate_command.specs.Answers.{Explains}
+use Rattle.replicate_command.specs.Answers.{Explains, IfStoreTells}
 use Rattle.replicate_command.specs.Asked.{Asked, cut_of}
 use Rattle.replicate_command.specs.Exact.{BlamesNoFile}
 use Rattle.replicate_command.specs.Later.{ObjectsGoOn}
 use Rattle.replicate_command.specs.Promise.{Ending, Prints, AreEnough, Whole, TellsRounds, ending_of}
 use Rattle.replicate_command.specs.Promise.Ending.{Finished, Unprinted, Spent, Refused}
 use Rattle.replicate_command.specs.Seen.{Seen, FaultsStay}
+use Rattle.replicate_command.specs.Standing.{KeepsStanding}
 use Rattle.replicate_command.specs.declared.stop.ReplicateStop.{ReplicateStop}
 
 -- what the objects tell, before a part of it and after it
@@ -132,6 +133,7 @@ pub record RunsOn (number count : ℕ) (from to : Premise) (seen : Seen) (why : 
   pub enough : AreEnough (ending_of why) count rounds
   pub prints : Prints (ending_of why) number seen.text seen.text_after rounds
   pub tells : Whole (ending_of why) (TellsRounds seen rounds)
+  pub keeps : IfStoreTells seen (KeepsStanding (cut_of seen.asked))
   pub faith : IfBothTell seen.live seen.live_after seen.store seen.store_after
       (λ old new settled now. (log : SyncLog) → new.database.chances ≡ 0
       → IsSettled settled old.database.history log → from log settled

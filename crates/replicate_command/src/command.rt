@@ -19,15 +19,19 @@ use replica_store::settle;
 use std::alloc::Global;
 
 /// Stores what changes in the database in the replica's folder, in as many rounds as are asked for, and prints a line
-/// for each. `now` is the moment of the call, in ms since 1970-01-01T00:00:00Z.
+/// for each. A round also empties a log of 1000 frames or more, where the request says that nobody else has the
+/// database open; it merges the replica's files, and drops those that are older than `request.keep` before `now`, as
+/// far as no transaction is lost that is to stay. `now` is the moment of the call, in ms since 1970-01-01T00:00:00Z.
 ///
 /// The steps, and so the refusals, come in this order: `live` is attached to the database (`NoDatabase` where none is
 /// at the path) and `store` to the replica's folder; the names of the files are brought to the disk; the gate is
 /// entered; the header of the newest file is read, where its transaction is retained (`Damaged`); then comes each
-/// round, with the refusals of `round`, and its line; at last the gate is left, also after a refusal. A fault of an
-/// object comes only where its count of faults rose, or stands at its last value.
+/// round, with the refusals of `round` (`Damaged` and `PageMissing` also for a file of a run that was due to be
+/// merged), and its line; at last the gate is left, also after a refusal. A fault of an object comes only where its
+/// count of faults rose, or stands at its last value. No file of a replica that tells the truth is blamed.
 ///
-/// After a refusal the replica has what the rounds that ended stored, and at most one file more.
+/// After a refusal the replica has what the rounds that ended stored, and at most one transaction more. Whatever the
+/// answer, each of its files has its bytes, or was older than that and is gone or written anew.
 pub fn replicate<L: Live, S: Disk, O: Out>(
     alloc: Global,
     request: &Request<'_>,

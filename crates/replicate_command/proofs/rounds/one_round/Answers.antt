@@ -6,7 +6,8 @@ use Rattle.replicate_command.specs.Asked.{asked_by}
 use Rattle.replicate_command.specs.Stage.{RunsOn, stage_of, IsAt}
 use Rattle.replicate_command.specs.Stop.{why_of}
 use Rattle.replicate_command.specs.declared.stop.ReplicateStop.{ReplicateStop}
-use Rattle.replicate_command.proofs.RoundLemmas.{round_refused, round_done, round_unprinted}
+use Rattle.replicate_command.proofs.RefusedLemmas.{round_refused}
+use Rattle.replicate_command.proofs.RoundLemmas.{round_done, round_unprinted}
 use Rattle.replicate_command.proofs.rounds.one_round.Goals as goal
 
 pub returns-in_err-done-clause-runs : goal.returns-in_err-done-clause-runs
@@ -16,7 +17,8 @@ returns-in_err-done-clause-runs g c =
     let ended = c.in_err-done.ensures in
     subst (λ (result : Result (Unit {0}) ReplicateStop). RunsOn c.args.number 1 (IsAt c.args.follower.now.place)
     (IsAt c.round.new.follower.place) seen (why_of result)) (sym (err_of _ _ c.from_residual.ensures.1))
-    (round_refused seen (is_at_rest (g.L.Live.attached c.args.live.now)) c.args.follower.now c.round.new.follower c.in_err-done.field-0.0 c.args.number
+    (round_refused seen (is_at_rest (g.L.Live.attached c.args.live.now)) c.args.follower.now c.round.new.follower
+    c.in_err-done.field-0.0 c.args.number
     (IsAt c.round.new.follower.place) c.requires.legal ended.live ended.store ended.faith ended.causes refl
     (omega arith))
 
@@ -28,7 +30,8 @@ returns-in_err-put-clause-runs g c =
     let line = c.as_slice.ensures.value ∙ c.round_line.ensures in
     subst (λ (result : Result (Unit {0}) ReplicateStop). RunsOn c.args.number 1 (IsAt c.args.follower.now.place)
     (IsAt c.round.new.follower.place) seen (why_of result)) (sym (err_of _ _ c.from_residual-in_err-put.ensures.1))
-    (round_unprinted seen (is_at_rest (g.L.Live.attached c.args.live.now)) c.args.follower.now c.round.new.follower c.in_ok-done.done c.args.number
+    (round_unprinted seen (is_at_rest (g.L.Live.attached c.args.live.now)) c.args.follower.now c.round.new.follower
+    c.in_ok-done.done c.args.number
     (IsAt c.round.new.follower.place) c.requires.legal ended.live ended.store ended.faith
     (record {
       live = ended.causes.live_later;
