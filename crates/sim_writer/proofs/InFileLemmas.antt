@@ -63,6 +63,10 @@ say_take size zero xs says = tt
 say_take size (suc k) [] says = tt
 say_take size (suc k) (x ∷ xs) (first, rest) = (first, say_take size k xs rest)
 
+pub say_front : (size : ℕ) (xs ys : List (List ℕ)) → FramesSay size (xs ++ ys) → FramesSay size xs
+say_front size [] ys says = tt
+say_front size (x ∷ xs) ys (first, rest) = (first, say_front size xs ys rest)
+
 pub say_found : (size : ℕ) (xs : List (List ℕ)) (page : List ℕ) → FramesSay size xs → frames_page 1 xs ≡ Some page
     → SaysSize size page
 say_found size [] page says found = absurd cc

@@ -19,5 +19,10 @@ pub mod CopyLemmas
 pub mod EmptyLemmas
 pub mod MayEmptyLemmas
 pub mod PassLemmas
+pub mod KeptLemmas
+pub mod AgainLemmas
+pub mod CommitAtLemmas
+pub mod BackLemmas
+pub mod StopLemmas
 pub mod LiveLemmas
 pub mod ReadCallLemmas

@@ -1,6 +1,8 @@
 -- Lists by their places.
-use Rattle.std.proofs.Common.{◌≡◌, ℕ, zero, suc, ◌+◌, ◌<◌, List, [], ◌∷◌, ◌++◌, length, Some, refl, ap, ◌∙◌, arith}
+use Rattle.std.proofs.Common.{◌≡◌, ℕ, zero, suc, ◌+◌, ◌-◌, ◌<◌, List, [], ◌∷◌, ◌++◌, length, take, Some, refl, sym, ap, subst, ◌∙◌, inl, inr, arith}
 use Rattle.std.specs.List.{slice_get}
+use Rattle.std.proofs.lemmas.Bool.{cases_lt}
+use Rattle.std.proofs.lemmas.Option.{slice_get_within, same_Some}
 
 pub same_by_places : {X : Type 0} (xs ys : List X) → length xs ≡ length ys
     → ((k : ℕ) → k < length xs → slice_get xs k ≡ slice_get ys k) → xs ≡ ys
@@ -30,3 +32,43 @@ get-behind (x ∷ xs) ys k =
 pub get-end : {X : Type 0} (xs : List X) (x : X) → slice_get (xs ++ x ∷ []) (length xs) ≡ Some x
 get-end [] x = refl
 get-end (y ∷ xs) x = get-end xs x
+
+-- the last of so many items and one
+pub record LastOf {X : Type 0} (xs : List X) (n : ℕ) : Type 0 where
+  pub front : List X
+  pub last : X
+  pub is : xs ≡ front ++ last ∷ []
+  pub many : length front ≡ n
+
+pub last_of : {X : Type 0} (xs : List X) (n : ℕ) → length xs ≡ n + 1 → LastOf xs n
+last_of [] n many = absurd (omega (arith, many))
+last_of (x ∷ []) n many = record { front = []; last = x; is = refl; many = omega (arith, many) }
+last_of {X} (x ∷ (y ∷ xs)) n many =
+    let rest = last_of (y ∷ xs) (n - 1) (omega (arith, many)) in
+    record {
+      front = x ∷ rest.front;
+      last = rest.last;
+      is = ap (λ (zs : List X). x ∷ zs) rest.is;
+      many = omega (arith, rest.many, many);
+    }
+
+-- ---- one place more
+
+pub each_more : {X : Type 0} (P : X → Type 0) (xs : List X) (at : ℕ) (x : X) → slice_get xs at ≡ Some x → P x
+    → ((k : ℕ) (y : X) → k < at → slice_get xs k ≡ Some y → P y)
+    → (k : ℕ) (y : X) → k < at + 1 → slice_get xs k ≡ Some y → P y
+each_more P xs at x found here before k y within is = elim (cases_lt k at) [
+  | inl early ↦ before k y early is
+  | inr late ↦
+      let same : k ≡ at = omega (arith, late, within) in
+      subst P (same_Some x y (sym found ∙ ap (slice_get xs) (sym same) ∙ is)) here
+]
+
+pub take-next : {X : Type 0} (xs : List X) (k : ℕ) (x : X) → slice_get xs k ≡ Some x
+    → take (k + 1) xs ≡ take k xs ++ x ∷ []
+take-next {X} xs k x found = ap (λ (n : ℕ). take n xs) (let e : k + 1 ≡ suc k = omega arith in e) ∙ by xs k found
+  where
+    by : (xs : List X) (k : ℕ) → slice_get xs k ≡ Some x → take (suc k) xs ≡ take k xs ++ x ∷ []
+    by [] k found = absurd (omega (arith, slice_get_within [] k x found))
+    by (y ∷ ys) zero found = ap (λ (z : X). z ∷ []) (same_Some y x found)
+    by (y ∷ ys) (suc k) found = ap (λ (zs : List X). y ∷ zs) (by ys k found)

@@ -6,6 +6,7 @@ pub mod Copying
 pub mod Commits
 pub mod Emptying
 pub mod OwnPass
+pub mod Stopping
 pub mod Passing
 pub mod Reading
 pub mod Loose

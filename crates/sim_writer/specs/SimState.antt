@@ -12,7 +12,7 @@ use Rattle.live_gate.specs.Coincidence.{CountsTwins}
 use Rattle.ls_base.specs.declared.entry.Entry.{Entry}
 use Rattle.wal_frames.specs.declared.header.WalHeader.{WalHeader}
 use Rattle.sim_writer.specs.declared.act.Act.{Act}
-use Rattle.sim_writer.specs.declared.act.Act.TheVariants.{Commit, Loose, Backfill, Restart, Cut, Refuse, Fault}
+use Rattle.sim_writer.specs.declared.act.Act.TheVariants.{Commit, Loose, Backfill, Restart, Cut, Stop, Refuse, Fault}
 use Rattle.sim_writer.specs.declared.machine.Machine.{Machine}
 use Rattle.sim_writer.specs.CommitFrames.{SaysSize, IsCommit}
 use Rattle.sim_writer.specs.Commits.{Commits, counted}
@@ -21,6 +21,7 @@ use Rattle.sim_writer.specs.Emptying.{CanEmpty, BeginsAnew, CutsLog}
 use Rattle.sim_writer.specs.Loose.{PutsLoose}
 use Rattle.sim_writer.specs.Questions.{nothing_asked}
 use Rattle.sim_writer.specs.Sound.{database_of, fresh}
+use Rattle.sim_writer.specs.Stopping.{CanStop, StopsAt}
 
 -- its name, its database and log, what was asked, to what it is attached, whether the next call is to fail, and its
 -- counts
@@ -74,6 +75,7 @@ IsLegalAct (Loose bytes) s = Unit {0}
 IsLegalAct (Backfill mark) s = CanBackfill mark s.machine
 IsLegalAct (Restart salt2) s = CanEmpty s.machine
 IsLegalAct Cut s = CanEmpty s.machine
+IsLegalAct (Stop mark tail) s = CanStop mark s.machine
 IsLegalAct (Refuse refuses) s = Unit {0}
 IsLegalAct Fault s = Unit {0}
 
@@ -87,6 +89,8 @@ Does (Backfill mark) old new =
 Does (Restart salt2) old new =
     BeginsAnew salt2 old.machine new.machine × (new ≡ record old { machine = new.machine })
 Does Cut old new = CutsLog old.machine new.machine × (new ≡ record old { machine = new.machine })
+Does (Stop mark tail) old new =
+    StopsAt mark tail old.machine new.machine × (new ≡ record old { machine = new.machine })
 Does (Refuse refuses) old new = new ≡ record old { machine = record old.machine { refuses = refuses } }
 Does Fault old new = new ≡ record old { fails = true }
 

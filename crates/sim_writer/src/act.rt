@@ -26,6 +26,12 @@ pub enum Act {
     Restart { salt2: u32 },
     /// Leaves a log of no bytes, of which the next header has the second salt of this one. Legal where `Restart` is.
     Cut,
+    /// Stops the machine. The log falls back to the mark of this number, from 1, or for 0 to the state before its
+    /// first commit. The tail stands behind, and behind the header of a log that has one where no mark is kept. The
+    /// hold is given up, and each call but `attach` fails until that is made.
+    ///
+    /// Legal where that is a mark of the log that isn't before the copied one, or 0 where nothing is copied.
+    Stop { mark: u32, tail: Bytes },
     /// Makes each pass be refused from now on, or no longer. Always legal.
     Refuse(bool),
     /// Makes the next call of `Live` fail. Always legal.

@@ -68,7 +68,12 @@ impl Machine {
 }
 
 /// The database file, with the frames of the log up to the mark that ends at the offset copied into it.
-pub(crate) fn copied_file(alloc: Global, file: &[u8], log: &[u8], upto: u64) -> Result<Bytes, Memory>
+pub(crate) fn copied_file(
+    alloc: Global,
+    file: &[u8],
+    log: &[u8],
+    upto: u64,
+) -> Result<Bytes, Memory>
     ensures { IfOk result (λ now. CopiesTo upto file.now log.now now) }
 {
     let mut disk = MemDisk::new(alloc);

@@ -1,12 +1,14 @@
 //! What states the database had.
 
-ghost use Rattle.std.specs.Prelude.{◌≡◌, ℕ, ◌-◌, true, false, List, [], ◌∷◌, ◌++◌, length, take, OnOk, OnErr};
+ghost use Rattle.std.specs.Prelude.{◌≡◌, ℕ, ◌-◌, true, false, List, [], ◌∷◌, ◌++◌, length, take, IfOk, OnOk};
+ghost use Rattle.std.specs.Prelude.{OnErr};
 ghost use Rattle.std.specs.Prelude.{option_copied};
 ghost use Rattle.std.specs.List.{slice_get};
 ghost use Rattle.ls_base.specs.History.{state_of};
+ghost use Rattle.sim_writer.specs.Stopping.{HasSomeTwin, HaveNoTwin};
 ghost use Rattle.sim_writer.specs.Twins.{HasTwin, HasNoTwin};
 
-use ls_base::{Entry, Memory, Pages};
+use ls_base::{Entry, Memory, Page, Pages};
 use std::alloc::Global;
 use std::marker::Model;
 
@@ -51,6 +53,16 @@ impl History {
         self.entries.pop();
     }
 
+    /// Puts the entries last. `Memory` for want of it, and the history is then as it was.
+    pub(crate) fn append(&mut self, more: History) -> Result<(), Memory>
+        ensures ok { OnOk result (self.new ≡ self.old ++ more) }
+        ensures err { OnErr result (self.new ≡ self.old) }
+    {
+        let mut more = more;
+        self.entries.append(&mut more.entries)?;
+        Ok(())
+    }
+
     /// How many entries there are.
     pub fn len(&self) -> usize
         ensures { result ≡ length self.now }
@@ -80,6 +92,40 @@ impl History {
         }
         false
     }
+
+    /// Whether one of the entries has the place of an entry of the history, but another state.
+    pub(crate) fn have_twins(&self, more: &History) -> bool
+        ensures some { result ≡ true → HasSomeTwin self.now more.now }
+        ensures none { result ≡ false → HaveNoTwin self.now more.now }
+    {
+        for at in 0..more.len() {
+            let Some(entry) = more.get(at) else {
+                unreachable!()
+            };
+            if self.has_twin(entry) {
+                return true;
+            }
+        }
+        false
+    }
+}
+
+/// A copy of the entry. `Memory` for want of it.
+pub(crate) fn copied_entry(alloc: Global, entry: &Entry) -> Result<Entry, Memory>
+    ensures { IfOk result (λ copy. copy ≡ entry.now) }
+{
+    let mut pages = Pages::new(alloc);
+    for at in 0..entry.pages.len() {
+        let Some(page) = entry.pages.get(at) else {
+            unreachable!()
+        };
+        pages.push(Page::copied(alloc, page.bytes())?)?;
+    }
+    Ok(Entry {
+        size: entry.size,
+        place: entry.place,
+        pages,
+    })
 }
 
 /// Whether two entries of one place have two states.

@@ -31,6 +31,7 @@ mod questions;
 mod reading;
 mod rest;
 mod sim_live;
+mod stopping;
 #[cfg(test)]
 mod tests;
 

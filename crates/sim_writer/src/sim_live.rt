@@ -2,7 +2,7 @@
 
 ghost use Rattle.std.specs.Prelude.{◌≡◌, IfOk};
 ghost use Rattle.std.specs.List.{concat};
-ghost use Rattle.sim_writer.specs.declared.act.Act.TheVariants.{Commit, Backfill, Restart, Cut};
+ghost use Rattle.sim_writer.specs.declared.act.Act.TheVariants.{Commit, Backfill, Restart, Cut, Stop};
 ghost use Rattle.sim_writer.specs.SimState.{ActsAs, IsFirst, Begins};
 
 use crate::act::Act;
@@ -108,6 +108,7 @@ impl SimLive {
             Act::Backfill { mark } => self.backfill(mark),
             Act::Restart { salt2 } => self.restart(salt2),
             Act::Cut => self.cut(),
+            Act::Stop { mark, tail } => self.stop(mark, tail),
             Act::Refuse(refuses) => {
                 self.machine.refuses = refuses;
                 Ok(true)
@@ -158,6 +159,17 @@ impl SimLive {
         ensures { ActsAs Cut result self.old self.new }
     {
         if self.machine.cut(self.alloc)? {
+            return Ok(true);
+        }
+        self.skipped = count_if(self.skipped, true);
+        Ok(false)
+    }
+
+    /// Stops the machine where that may be.
+    fn stop(&mut self, mark: u32, tail: Bytes) -> Result<bool, Memory>
+        ensures { ActsAs (Stop mark tail) result self.old self.new }
+    {
+        if self.machine.stop(self.alloc, mark, tail.as_slice())? {
             return Ok(true);
         }
         self.skipped = count_if(self.skipped, true);

@@ -16,8 +16,7 @@ returns-clause-done c _ =
     let f = subst (λ (b : List ℕ). IsFileEntry c.next_head-head.result.size b c.in_ok-entry.entry) c.as_slice-3.ensures
     c.in_ok-entry.ensures in
     let done = c.in_ok-empty.ensures.ok in
-    let t = λ (x : Machine). record x { file = c.in_ok-file.file; held = Some 0 } in
-    (
+    let t = λ (x : Machine). record x { file = c.in_ok-file.file; held = Some 0 } in (
       can.0,
       subst (λ (x : Machine). TakesPass c.args.place.now m x) (sym (ap t done.is))
           (takes_pass m c.requires.sound c.args.place.now can.0 c.in-Some.end can.1 c.in_ok-file.file copies
