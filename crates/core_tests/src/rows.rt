@@ -1,6 +1,7 @@
 //! Command lines, with what each answers, prints and leaves, by hand from the rules.
 
 use crate::files::Replica;
+use db_page::HeaderFault;
 use litestream_core::Why;
 use ls_words::{Usage, UsageWhy};
 
@@ -346,11 +347,11 @@ pub const WORDS: [Row; 6] = [
         left: &[],
     },
     Row {
-        line: "replicate -at-rest d r",
+        line: "replicate -at-rest -retention 1h d r",
         replica: Replica::Whole,
         there: &[],
-        why: Why::NotBuilt,
-        status: 2,
+        why: Why::Header(HeaderFault::Short(0)),
+        status: 1,
         text: "",
         left: &[],
     },
