@@ -161,7 +161,8 @@ def main():
             sys.exit(f"the newest transaction is of commit {newest}, and not of {asked.commits}")
         print(
             f"{asked.commits} commits in {last - began:.0f} s beside {replica.rounds} rounds:"
-            f" {len(replica.stored)} transactions, {replica.merged} merges, {replica.dropped} files dropped, {replica.lost} transactions lost to age;"
+            f" {len(replica.stored)} transactions, {replica.merged} merges, {replica.dropped} files dropped,"
+            f" {replica.lost} transactions lost to age;"
             f" {restored} restored, each as it was"
         )
 

@@ -34,8 +34,8 @@ pub record GoesBehind
   pub unasked : (IsLong kept → ⊥) → new.asked.passes_asked ≡ old.asked.passes_asked
 
 -- All that a round asks was answered. The pass took place exactly where their count rose.
-pub record HasRoundedLive (at_rest : Bool) (f after : Following) (synced : Synced) (passed : Bool) (old new : LiveRecord)
-    : Type 0 where
+pub record HasRoundedLive
+    (at_rest : Bool) (f after : Following) (synced : Synced) (passed : Bool) (old new : LiveRecord) : Type 0 where
   pub behind : GoesBehind at_rest f after synced (Ok passed) old new
   pub done :
       new.asked.passes_done ≡ (if passed then capped (old.asked.passes_done + 1) else old.asked.passes_done)

@@ -1,5 +1,5 @@
-//! A round of a replication: what changed in a live database is stored, the gate's hold moves on, a long log is emptied,
-//! and the replica is kept in order.
+//! A round of a replication: what changed in a live database is stored, the gate's hold moves on, a long log is
+//! emptied, and the replica is kept in order.
 //!
 //! To the layer above it promises: a sync stores what changed since the follower's place as the next transaction, or
 //! nothing where nothing changed; behind it the gate is held at the end of the place that is then recorded. A pass is
@@ -10,8 +10,8 @@
 //! next (`RoundKeepsFaith`). Each refusal tells its cause, and blames no file that tells the truth. Memory is taken for
 //! one list of the files, and for one page and 64 KiB of a file.
 //!
-//! Stands on `replica_sync`, which stores, on `replica_upkeep`, which merges and drops, on `replica_store`, which lists, on
-//! `wal_follow` and on `live_gate`.
+//! Stands on `replica_sync`, which stores, on `replica_upkeep`, which merges and drops, on `replica_store`, which lists,
+//! on `wal_follow` and on `live_gate`.
 #![tactic(auto)]
 
 mod changing;

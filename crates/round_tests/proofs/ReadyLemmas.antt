@@ -39,5 +39,5 @@ module _ (at_rest : Bool) (f after : Following) (round : Round) (old new : Told)
 
   pub still_fits : IfTold new (λ r. Fits after r.database)
   still_fits =
-      told_now old new (Rounds at_rest f after (Ok round)) (λ r. IsReady r.database) (λ r. Fits after r.database) goes was
-      (λ x y is rounds. rounds.fits tt (rounds.awake refl))
+      told_now old new (Rounds at_rest f after (Ok round)) (λ r. IsReady r.database) (λ r. Fits after r.database) goes
+      was (λ x y is rounds. rounds.fits tt (rounds.awake refl))

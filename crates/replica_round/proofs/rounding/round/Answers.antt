@@ -21,7 +21,8 @@ pub returns-in_err-passed-clause-live : goal.returns-in_err-passed-clause-live
 returns-in_err-passed-clause-live g c =
     subst (λ (result : Result Round RoundStop). GoesOn (g.L.Live.told c.args.live.now)
     (g.L.Live.told c.pass_when_long.new.live) (Rounds (is_at_rest (g.L.Live.attached c.args.live.now))
-    c.args.follower.now c.pass_when_long.new.follower result)) (sym (err_of _ _ c.from_residual-in_err-passed.ensures.1))
+    c.args.follower.now c.pass_when_long.new.follower result))
+    (sym (err_of _ _ c.from_residual-in_err-passed.ensures.1))
     (goes_both _ _ _ _ _ _ c.in_ok-changed.ensures.live c.in_err-passed.ensures.told
     (λ r mid after told changes passes.
     unpassed_rounds c.args.follower.now c.store_changes.new.follower c.pass_when_long.new.follower
@@ -34,7 +35,8 @@ pub returns-in_err-upkeep-clause-live : goal.returns-in_err-upkeep-clause-live
 returns-in_err-upkeep-clause-live g c =
     subst (λ (result : Result Round RoundStop). GoesOn (g.L.Live.told c.args.live.now)
     (g.L.Live.told c.pass_when_long.new.live) (Rounds (is_at_rest (g.L.Live.attached c.args.live.now))
-    c.args.follower.now c.pass_when_long.new.follower result)) (sym (err_of _ _ c.from_residual-in_err-upkeep.ensures.1))
+    c.args.follower.now c.pass_when_long.new.follower result))
+    (sym (err_of _ _ c.from_residual-in_err-upkeep.ensures.1))
     (goes_fitting _ _ _ _ _ _ _ c.in_ok-changed.ensures.live c.in_ok-passed.ensures.told c.in_ok-passed.ensures.fits
     (λ r mid after changes passes fits.
     unkept_rounds c.args.follower.now c.store_changes.new.follower c.pass_when_long.new.follower
