@@ -6,7 +6,6 @@ use crate::stops::{CALLS, LINE, PAGES, RENAMED};
 use crash_disk::{Disk, MemDisk, MemOut, Out};
 use litestream_core::Why;
 use std::alloc::Global;
-use std::process::Abort;
 use std::test::Fail;
 
 /// How many calls on the replica's disk a restore of one file of two pages makes: attach, the names, the header, then
@@ -28,50 +27,54 @@ fn stays(call: u64) -> Option<u64> {
     if call <= 2 { Some(3) } else { None }
 }
 
-fn check_target(rt: &impl Abort, alloc: Global, call: u64) -> Result<(), Fail> {
+/// Whether a restore of which the call of this number on the output's disk fails tells that, and leaves what it is to.
+fn tells_target(alloc: Global, call: u64) -> Result<bool, Fail> {
     let mut store = disk_of(alloc, Replica::Whole)?;
     let mut target = stopped_before(alloc)?;
     target.fail_at(call)?;
     let mut out = MemOut::new(alloc);
     let outcome = carried_out(alloc, LINE, &mut store, &mut target, &mut out)?;
-    assert_eq!(rt; outcome.why, Why::TargetFault, "call {call}");
-    assert_eq!(rt; outcome.status, 3, "call {call}");
-    assert_eq!(rt; target.faults(), 1, "call {call}");
-    assert_eq!(rt; out.bytes(), b"".as_slice(), "call {call}");
     let left: &[u8] = if call > RENAMED { &PAGES } else { &[] };
-    assert!(rt; holds(alloc, &mut target, left)?, "call {call}");
-    assert_eq!(rt; target.size(TEMPORARY)?, stays(call), "call {call}");
-    Ok(())
+    let holds = holds(alloc, &mut target, left)?;
+    let stays = target.size(TEMPORARY)? == stays(call);
+    let told = outcome.why == Why::TargetFault && outcome.status == 3 && target.faults() == 1;
+    Ok(told && out.bytes().is_empty() && holds && stays)
 }
 
 #[test]
 fn a_failing_call_on_the_target_is_told(rt: HostRuntime) -> Result<(), Fail> {
     for before in 0..CALLS {
-        check_target(&rt, rt.alloc(), before + 1)?;
+        assert!(rt;
+            tells_target(rt.alloc(), before + 1)?,
+            "behind {before} calls"
+        );
     }
     Ok(())
 }
 
-fn check_store(rt: &impl Abort, alloc: Global, call: u64) -> Result<(), Fail> {
+/// The same of a call on the replica's disk; of one behind the last it is done.
+fn tells_store(alloc: Global, call: u64) -> Result<bool, Fail> {
     let mut store = disk_of(alloc, Replica::Whole)?;
     store.fail_at(call)?;
     let mut target = stopped_before(alloc)?;
     let mut out = MemOut::new(alloc);
     let outcome = carried_out(alloc, LINE, &mut store, &mut target, &mut out)?;
-    let passes = call > STORE_CALLS;
-    let why = if passes { Why::Done } else { Why::StoreFault };
-    assert_eq!(rt; outcome.why, why, "call {call}");
-    assert_eq!(rt; outcome.status, if passes { 0 } else { 3 }, "call {call}");
-    let left: &[u8] = if passes { &PAGES } else { &[] };
-    assert!(rt; holds(alloc, &mut target, left)?, "call {call}");
-    assert_eq!(rt; target.size(TEMPORARY)?, stays(call), "call {call}");
-    Ok(())
+    let done = call > STORE_CALLS;
+    let left: &[u8] = if done { &PAGES } else { &[] };
+    let holds = holds(alloc, &mut target, left)?;
+    let stays = target.size(TEMPORARY)? == stays(call);
+    let why = if done { Why::Done } else { Why::StoreFault };
+    let status = if done { 0 } else { 3 };
+    Ok(outcome.why == why && outcome.status == status && holds && stays)
 }
 
 #[test]
 fn a_failing_call_on_the_store_is_told(rt: HostRuntime) -> Result<(), Fail> {
     for before in 0..=STORE_CALLS {
-        check_store(&rt, rt.alloc(), before + 1)?;
+        assert!(rt;
+            tells_store(rt.alloc(), before + 1)?,
+            "behind {before} calls"
+        );
     }
     Ok(())
 }
