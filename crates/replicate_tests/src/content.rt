@@ -64,7 +64,7 @@ const FRAMES: [Frame; 5] = [
 ];
 
 /// Puts the bytes of a page last. Page 1 begins with the header of a database.
-fn put_page(bytes: &mut Vec<u8>, number: u32, fill: u8) -> Result<(), Fail> {
+pub fn put_page(bytes: &mut Vec<u8>, number: u32, fill: u8) -> Result<(), Fail> {
     if number != 1 {
         bytes.extend_from_slice(&[fill; 512])?;
         return Ok(());
